@@ -1,0 +1,134 @@
+use Prim.Native.Nat.{ℕ, zero, suc, _+_, _*_, _/_, _%_, _^_, _<_, _≤_}
+use mathlib.Core.Path.{_≡_, refl, sym, ap, ap₂, subst, _∙_}
+use mathlib.Core.List.{List, [], _∷_, _++_, map}
+use mathlib.Core.Logic.{_⊎_, inl, inr, ⊎-elim}
+use native.Mathlib.Omega.{arith}
+use native.Mathlib.Nat.{pow-suc}
+use lib.Bits.{bitXor, xor-zero-r, xor-lt, xor-zero-l, xor-self}
+use lib.ListN.{length, getD}
+use lib.Arith.{lt-one}
+use lib.Pow.{pow-pos, shr-shr, field, mod-mod-pow}
+use lib.Seq.{ext-getD}
+use native.Mathlib.Numerals.{add-one}
+use Rattle.bits.specs.Image.{chosen, image, AllBelow, Linear, columns}
+use Rattle.bits.proofs.XorLaws.{even-or-odd, xor-half, xor-low, xor-swap, xor-assoc, xor-double, xor-split}
+use Rattle.bits.proofs.ParityLaws.{unit-half, unit-low}
+
+pub image-nil : (x : ℕ) → image [] x ≡ 0
+unfolding image
+image-nil x = refl
+
+pub image-cons : (c : ℕ) (cs : List ℕ) (x : ℕ) → image (c ∷ cs) x ≡ bitXor (chosen (x % 2) c) (image cs (x / 2))
+unfolding image
+image-cons c cs x = refl
+
+pub image-zero : (cs : List ℕ) → image cs 0 ≡ 0
+unfolding image
+image-zero [] = refl
+image-zero (c ∷ cs) = image-zero cs
+
+-- bits that differ choose what differs
+chosen-xor : (a b c : ℕ) → chosen ((a + b) % 2) c ≡ bitXor (chosen (a % 2) c) (chosen (b % 2) c)
+chosen-xor a b c = go (even-or-odd a) (even-or-odd b)
+  where
+    go : (a % 2 ≡ 0) ⊎ (a % 2 ≡ 1) → (b % 2 ≡ 0) ⊎ (b % 2 ≡ 1) → chosen ((a + b) % 2) c ≡ bitXor (chosen (a % 2) c) (chosen (b % 2) c)
+    go (inl p) (inl q) = let s : (a + b) % 2 ≡ 0 = omega arith in rw (s, p, q)
+    go (inl p) (inr q) = let s : (a + b) % 2 ≡ 1 = omega arith in rw (s, p, q)
+    go (inr p) (inl q) = let s : (a + b) % 2 ≡ 1 = omega arith in rw (s, p, q) (sym (xor-zero-r c))
+    go (inr p) (inr q) = let s : (a + b) % 2 ≡ 0 = omega arith in rw (s, p, q) (sym (xor-self c))
+
+pub image-xor : (cs : List ℕ) → Linear (image cs)
+unfolding image
+image-xor [] x y = refl
+image-xor (c ∷ cs) x y =
+    ap₂ (λ (a b : ℕ). bitXor (chosen a c) b) (xor-low x y) (ap (image cs) (xor-half x y) ∙ image-xor cs (x / 2) (y / 2))
+    ∙ ap (λ (a : ℕ). bitXor a (bitXor (image cs (x / 2)) (image cs (y / 2)))) (chosen-xor x y c)
+    ∙ xor-swap (chosen (x % 2) c) (chosen (y % 2) c) (image cs (x / 2)) (image cs (y / 2))
+
+pub image-unit : (cs : List ℕ) (j : ℕ) → image cs (2 ^ j) ≡ getD cs j 0
+unfolding image
+image-unit [] j = refl
+image-unit (c ∷ cs) zero = ap (bitXor c) (image-zero cs) ∙ xor-zero-r c
+image-unit (c ∷ cs) (suc j) = rw (unit-half j, unit-low j) (image-unit cs j)
+
+chosen-lt : (b c m : ℕ) → c < 2 ^ m → chosen b c < 2 ^ m
+chosen-lt zero c m h = pow-pos m
+chosen-lt (suc b) c m h = h
+
+pub image-lt : (m : ℕ) (cs : List ℕ) → AllBelow (2 ^ m) cs → (x : ℕ) → image cs x < 2 ^ m
+unfolding image
+image-lt m [] h x = pow-pos m
+image-lt m (c ∷ cs) h x =
+    xor-lt m (chosen (x % 2) c) (image cs (x / 2)) (chosen-lt (x % 2) c m (h 0 (omega arith)))
+    (image-lt m cs (λ j l. h (suc j) (omega arith)) (x / 2))
+
+-- the columns of a second list take the bits above the first list's
+pub image-append : (cs ds : List ℕ) (x : ℕ) → image (cs ++ ds) x ≡ bitXor (image cs x) (image ds (x / 2 ^ length cs))
+unfolding image
+image-append [] ds x = ap (image ds) (omega arith)
+image-append (c ∷ cs) ds x =
+    ap (bitXor (chosen (x % 2) c)) (image-append cs ds (x / 2) ∙ ap (λ (y : ℕ). bitXor (image cs (x / 2)) (image ds y)) (shr-shr x 1 (length cs) ∙ ap (λ (e : ℕ). x / 2 ^ e) (omega arith)))
+    ∙ sym (xor-assoc (chosen (x % 2) c) (image cs (x / 2)) (image ds (x / 2 ^ suc (length cs))))
+
+-- bits above the columns choose nothing
+pub image-mod : (cs : List ℕ) (x : ℕ) → image cs (x % 2 ^ length cs) ≡ image cs x
+unfolding image
+image-mod [] x = refl
+image-mod (c ∷ cs) x =
+    ap (λ (e : ℕ). image (c ∷ cs) (x % 2 ^ e)) (sym (add-one (length cs)))
+    ∙ ap₂ (λ (a b : ℕ). bitXor (chosen a c) b) (mod-mod-pow x (length cs) 1)
+    (ap (image cs) (field x (length cs) 1) ∙ image-mod cs (x / 2))
+
+pub linear-zero : (f : ℕ → ℕ) → Linear f → f 0 ≡ 0
+linear-zero f l = l 0 0 ∙ xor-self (f 0)
+
+linear-chosen : (f : ℕ → ℕ) → Linear f → (b c : ℕ) → f (chosen b c) ≡ chosen b (f c)
+linear-chosen f l zero c = linear-zero f l
+linear-chosen f l (suc b) c = refl
+
+-- the columns of B after A are the images of A's columns
+pub image-image : (bs cs : List ℕ) (x : ℕ) → image bs (image cs x) ≡ image (map (image bs) cs) x
+unfolding image
+image-image bs [] x = image-zero bs
+image-image bs (c ∷ cs) x =
+    image-xor bs (chosen (x % 2) c) (image cs (x / 2))
+    ∙ ap₂ bitXor (linear-chosen (image bs) (image-xor bs) (x % 2) c) (image-image bs cs (x / 2))
+
+pub columns-length : (n : ℕ) (f : ℕ → ℕ) → length (columns n f) ≡ n
+unfolding columns
+columns-length zero f = refl
+columns-length (suc n) f = ap suc (columns-length n (λ x. f (2 * x)))
+
+pub columns-at : (n : ℕ) (f : ℕ → ℕ) (j : ℕ) → j < n → getD (columns n f) j 0 ≡ f (2 ^ j)
+unfolding columns
+columns-at zero f j h = absurd (omega arith)
+columns-at (suc n) f zero h = refl
+columns-at (suc n) f (suc j) h = columns-at n (λ x. f (2 * x)) j (omega arith) ∙ ap f (omega (arith, pow-suc 2 j))
+
+linear-double : (f : ℕ → ℕ) → Linear f → Linear (λ x. f (2 * x))
+linear-double f l x y = ap f (xor-double x y) ∙ l (2 * x) (2 * y)
+
+low-chosen : (x : ℕ) → x % 2 ≡ chosen (x % 2) 1
+low-chosen x = ⊎-elim (λ e. rw e) (λ e. rw e) (even-or-odd x)
+
+-- a linear map on the numbers of n bits is the image under its columns
+pub linear-image : (n : ℕ) (f : ℕ → ℕ) → Linear f → (x : ℕ) → x < 2 ^ n → f x ≡ image (columns n f) x
+unfolding image columns
+linear-image zero f l x h = ap f (lt-one h) ∙ linear-zero f l
+linear-image (suc n) f l x h =
+    ap f (xor-split x)
+    ∙ l (x % 2) (2 * (x / 2))
+    ∙ ap₂ bitXor (ap f (low-chosen x) ∙ linear-chosen f l (x % 2) 1)
+    (linear-image n (λ y. f (2 * y)) (linear-double f l) (x / 2) (omega (arith, pow-suc 2 n)))
+
+-- two linear maps that agree at 2^0 .. 2^(n-1) agree on all numbers of n bits
+pub linear-agree : (n : ℕ) (f g : ℕ → ℕ) → Linear f → Linear g → ((j : ℕ) → j < n → f (2 ^ j) ≡ g (2 ^ j))
+    → (x : ℕ) → x < 2 ^ n → f x ≡ g x
+linear-agree n f g l m same x b =
+    linear-image n f l x b ∙ ap (λ (cs : List ℕ). image cs x) columns-same ∙ sym (linear-image n g m x b)
+  where
+    columns-same : columns n f ≡ columns n g
+    columns-same =
+        ext-getD 0 (columns n f) (columns n g) (columns-length n f ∙ sym (columns-length n g))
+        (λ j h.
+        let k : j < n = omega (arith, columns-length n f) in columns-at n f j k ∙ same j k ∙ sym (columns-at n g j k))

@@ -1,0 +1,4 @@
+-- Numbers as rows of bits: bit 0 is the lowest.
+pub mod Image
+pub mod Parity
+pub mod Word

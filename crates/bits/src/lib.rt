@@ -1,0 +1,44 @@
+// Numbers as rows of bits. Bit 0 is the lowest.
+ghost use mathlib.Core.Path.{_≡_};
+ghost use Prim.Native.Nat.{_<_, _^_};
+ghost use Rattle.bits.specs.Image.{image as imageOf};
+ghost use Rattle.bits.specs.Parity.{parity as parityOf};
+ghost use Rattle.bits.specs.Word.{Exponent};
+
+// 1 if x has an odd number of ones, else 0.
+pub fn parity(x: u32) -> u32
+    ensures { λ r. ⌜ r ≡ parityOf x ⌝ }
+{
+    let mut odd = 0;
+    let mut rest = x;
+    while rest != 0 {
+        odd = (odd + rest % 2) % 2;
+        rest = rest / 2;
+    }
+    odd
+}
+
+// The exclusive or of the columns at the set bits of x.
+pub fn image(columns: &[u16], x: u32) -> u16
+    ensures { λ r. ⌜ r ≡ imageOf (now (columns .entry)) x ⌝ }
+{
+    let mut sum = 0;
+    let mut rest = x;
+    let mut j = 0;
+    while j < columns.len() {
+        if rest % 2 == 1 {
+            sum = sum ^ columns[j];
+        }
+        rest = rest / 2;
+        j += 1;
+    }
+    sum
+}
+
+// 2^k.
+pub fn two_to(k: u32) -> u32
+    requires { ⌜ Exponent k ⌝ }
+    ensures { λ r. ⌜ r ≡ 2 ^ k ⌝ }
+{
+    1 << k
+}

@@ -1,0 +1,43 @@
+-- The scan of a list, in order from the first number: keep a number that is no sum of kept ones (01, 'The planner's choices').
+--   members vs ps      the numbers of vs at the positions ps
+--   keptAt vs i        the positions kept among the first i numbers of vs, ascending
+--   kept vs            the numbers kept
+--   rank vs            how many are kept
+--   over ps m          the mask m over the positions ps, as a mask over all positions
+--   mask vs i          which kept numbers, by their positions in vs, have number i of vs as their sum; a kept one is its own
+use Prim.Native.Nat.{ℕ, zero, suc, _^_}
+use mathlib.Core.List.{List, [], _∷_, _++_, map}
+use lib.ListN.{length, getD}
+use Rattle.bits.specs.Image.{image}
+use Rattle.span.specs.Sums.{SumOf, sumOf?}
+
+abbrev pub members : List ℕ → List ℕ → List ℕ
+members vs ps = map (λ p. getD vs p 0) ps
+
+abbrev pub withNext : {cs : List ℕ} {v : ℕ} → Dec (SumOf cs v) → List ℕ → ℕ → List ℕ
+withNext (yes s) ps i = ps
+withNext (no n) ps i = ps ++ (i ∷ [])
+
+unfoldable pub keptAt : List ℕ → ℕ → List ℕ
+unfolding sumOf?
+keptAt vs zero = []
+keptAt vs (suc i) = withNext (sumOf? (members vs (keptAt vs i)) (getD vs i 0)) (keptAt vs i) i
+
+unfoldable pub kept : List ℕ → List ℕ
+unfolding keptAt
+kept vs = members vs (keptAt vs (length vs))
+
+unfoldable pub rank : List ℕ → ℕ
+unfolding kept
+rank vs = length (kept vs)
+
+abbrev pub over : List ℕ → ℕ → ℕ
+over ps m = image (map (λ p. 2 ^ p) ps) m
+
+abbrev pub maskBy : {cs : List ℕ} {v : ℕ} → Dec (SumOf cs v) → List ℕ → ℕ → ℕ
+maskBy (yes s) ps i = over ps (s .0)
+maskBy (no n) ps i = 2 ^ i
+
+unfoldable pub mask : List ℕ → ℕ → ℕ
+unfolding keptAt sumOf?
+mask vs i = maskBy (sumOf? (members vs (keptAt vs i)) (getD vs i 0)) (keptAt vs i) i

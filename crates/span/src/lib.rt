@@ -1,0 +1,1 @@
+pub struct X(pub u32);

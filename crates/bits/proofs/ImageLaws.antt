@@ -14,6 +14,15 @@ use Rattle.bits.specs.Image.{chosen, image, AllBelow, Linear, columns}
 use Rattle.bits.proofs.XorLaws.{even-or-odd, xor-half, xor-low, xor-swap, xor-assoc, xor-double, xor-split}
 use Rattle.bits.proofs.ParityLaws.{unit-half, unit-low}
 
+pub below-one : (b c : ℕ) → c < b → AllBelow b (c ∷ [])
+below-one b c h zero l = h
+below-one b c h (suc j) l = absurd (omega arith)
+
+pub below-append : (b : ℕ) (cs ds : List ℕ) → AllBelow b cs → AllBelow b ds → AllBelow b (cs ++ ds)
+below-append b [] ds h k j l = k j l
+below-append b (c ∷ cs) ds h k zero l = h 0 (omega arith)
+below-append b (c ∷ cs) ds h k (suc j) l = below-append b cs ds (λ i g. h (suc i) (omega arith)) k j (omega arith)
+
 pub image-nil : (x : ℕ) → image [] x ≡ 0
 unfolding image
 image-nil x = refl
@@ -70,6 +79,10 @@ image-append (c ∷ cs) ds x =
     ap (bitXor (chosen (x % 2) c)) (image-append cs ds (x / 2) ∙ ap (λ (y : ℕ). bitXor (image cs (x / 2)) (image ds y)) (shr-shr x 1 (length cs) ∙ ap (λ (e : ℕ). x / 2 ^ e) (omega arith)))
     ∙ sym (xor-assoc (chosen (x % 2) c) (image cs (x / 2)) (image ds (x / 2 ^ suc (length cs))))
 
+pub image-snoc : (cs : List ℕ) (c x : ℕ) → image (cs ++ (c ∷ [])) x ≡ bitXor (image cs x) (chosen (x / 2 ^ length cs % 2) c)
+unfolding image
+image-snoc cs c x = image-append cs (c ∷ []) x ∙ ap (bitXor (image cs x)) (xor-zero-r (chosen (x / 2 ^ length cs % 2) c))
+
 -- bits above the columns choose nothing
 pub image-mod : (cs : List ℕ) (x : ℕ) → image cs (x % 2 ^ length cs) ≡ image cs x
 unfolding image
@@ -86,13 +99,16 @@ linear-chosen : (f : ℕ → ℕ) → Linear f → (b c : ℕ) → f (chosen b c
 linear-chosen f l zero c = linear-zero f l
 linear-chosen f l (suc b) c = refl
 
+-- a linear map takes sums of columns to sums of their values
+pub linear-map : (f : ℕ → ℕ) → Linear f → (cs : List ℕ) (x : ℕ) → f (image cs x) ≡ image (map f cs) x
+unfolding image
+linear-map f l [] x = linear-zero f l
+linear-map f l (c ∷ cs) x =
+    l (chosen (x % 2) c) (image cs (x / 2)) ∙ ap₂ bitXor (linear-chosen f l (x % 2) c) (linear-map f l cs (x / 2))
+
 -- the columns of B after A are the images of A's columns
 pub image-image : (bs cs : List ℕ) (x : ℕ) → image bs (image cs x) ≡ image (map (image bs) cs) x
-unfolding image
-image-image bs [] x = image-zero bs
-image-image bs (c ∷ cs) x =
-    image-xor bs (chosen (x % 2) c) (image cs (x / 2))
-    ∙ ap₂ bitXor (linear-chosen (image bs) (image-xor bs) (x % 2) c) (image-image bs cs (x / 2))
+image-image bs = linear-map (image bs) (image-xor bs)
 
 pub columns-length : (n : ℕ) (f : ℕ → ℕ) → length (columns n f) ≡ n
 unfolding columns

@@ -1,9 +1,12 @@
 -- A map by its rows (01: "row r of a part is bit r of its result").
---   dots R x        the number whose bit l says whether row l of R AND x has an odd number of ones: the image of x under the rows R
+--   dots R x        the number whose bit l says whether row l of R AND x has an odd number of ones: what the rows R make of x
 --   rows m C        the m rows of the map with columns C: bit j of row i is bit i of column j
-use Prim.Native.Nat.{ℕ, _+_, _*_, _^_}
+--   Duals k R       dual vectors of the rows R, of k bits each: row l AND vector j has an odd number of ones exactly when l is j
+use Prim.Native.Nat.{ℕ, _+_, _*_, _^_, _<_}
+use mathlib.Core.Path.{_≡_}
 use mathlib.Core.List.{List, [], _∷_}
-use Rattle.bits.specs.Image.{columns}
+use lib.ListN.{length, getD}
+use Rattle.bits.specs.Image.{AllBelow, columns}
 use Rattle.bits.specs.Parity.{dot}
 
 unfoldable pub dots : List ℕ → ℕ → ℕ
@@ -13,3 +16,9 @@ dots (r ∷ rs) x = dot r x + 2 * dots rs x
 unfoldable pub rows : ℕ → List ℕ → List ℕ
 unfolding columns dots
 rows m cs = columns m (dots cs)
+
+pub record Duals (k : ℕ) (rs : List ℕ) : Type 0 where
+  pub vectors : List ℕ
+  pub count : length vectors ≡ length rs
+  pub below : AllBelow (2 ^ k) vectors
+  pub dual : (j : ℕ) → j < length rs → dots rs (getD vectors j 0) ≡ 2 ^ j

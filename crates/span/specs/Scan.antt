@@ -3,6 +3,8 @@
 --   keptAt vs i        the positions kept among the first i numbers of vs, ascending
 --   kept vs            the numbers kept
 --   rank vs            how many are kept
+--   Kept vs i          number i of vs is kept: it is no sum of those kept before it
+--   units ps           2^p for each position p of ps
 --   over ps m          the mask m over the positions ps, as a mask over all positions
 --   mask vs i          which kept numbers, by their positions in vs, have number i of vs as their sum; a kept one is its own
 use Prim.Native.Nat.{ℕ, zero, suc, _^_}
@@ -31,11 +33,17 @@ unfoldable pub rank : List ℕ → ℕ
 unfolding kept
 rank vs = length (kept vs)
 
+abbrev pub Kept : List ℕ → ℕ → Type 0
+Kept vs i = ¬ SumOf (members vs (keptAt vs i)) (getD vs i 0)
+
+abbrev pub units : List ℕ → List ℕ
+units ps = map (λ p. 2 ^ p) ps
+
 abbrev pub over : List ℕ → ℕ → ℕ
-over ps m = image (map (λ p. 2 ^ p) ps) m
+over ps m = image (units ps) m
 
 abbrev pub maskBy : {cs : List ℕ} {v : ℕ} → Dec (SumOf cs v) → List ℕ → ℕ → ℕ
-maskBy (yes s) ps i = over ps (s .0)
+maskBy (yes s) ps i = over ps (s .selected)
 maskBy (no n) ps i = 2 ^ i
 
 unfoldable pub mask : List ℕ → ℕ → ℕ

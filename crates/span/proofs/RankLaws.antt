@@ -1,0 +1,118 @@
+use Prim.Native.Nat.{ℕ, zero, suc, _+_, _^_, _≤_, _<_}
+use mathlib.Core.Path.{_≡_, refl, sym, ap, ap₂, _∙_}
+use mathlib.Core.List.{List, [], _∷_, _++_, map}
+use native.Mathlib.Nat.{le-antisymm, le-trans, le-of-eq}
+use native.Mathlib.Omega.{arith}
+use lib.Bits.{bitXor}
+use lib.ListN.{length, getD, length-map, length-append}
+use lib.Pow.{pow-pos}
+use Rattle.bits.specs.Image.{image, AllBelow, Linear, columns}
+use Rattle.bits.proofs.ImageLaws.{image-zero, linear-map, linear-image, columns-length, columns-at, image-unit}
+use Rattle.span.specs.Maps.{Into, Injective}
+use Rattle.span.specs.Sums.{SumOf, Independent}
+use Rattle.span.specs.Scan.{members, keptAt, kept, rank, units, over}
+use Rattle.span.proofs.Counting.{injective-onto}
+use Rattle.span.proofs.SumLaws.{sum-image, sum-member, sum-xor, sum-left, sum-right, span-trans, independent-le, independent-width, independent-injective}
+use Rattle.span.proofs.ScanLaws.{members-at, kept-independent, kept-below, scanned-sum, image-over, over-below}
+
+pub kept-all-independent : (vs : List ℕ) → Independent (kept vs)
+unfolding kept
+kept-all-independent vs = kept-independent vs (length vs)
+
+-- each number of a list is a sum of those kept
+pub kept-sum : (vs : List ℕ) (j : ℕ) → j < length vs → SumOf (kept vs) (getD vs j 0)
+unfolding kept
+kept-sum vs j h = scanned-sum vs h
+
+-- each of those kept is in the list
+pub kept-member : (vs : List ℕ) (l : ℕ) → l < length (kept vs) → SumOf vs (getD (kept vs) l 0)
+unfolding kept
+kept-member vs l h =
+    let k : l < length (keptAt vs (length vs)) = rw length-map at h in
+    rw (members-at vs (keptAt vs (length vs)) l k) (sum-member vs (getD (keptAt vs (length vs)) l 0))
+
+-- a list of which each number is a sum is no shorter than the rank
+pub rank-le-length : (vs ds : List ℕ) → ((j : ℕ) → j < length vs → SumOf ds (getD vs j 0)) → rank vs ≤ length ds
+unfolding rank
+rank-le-length vs ds sums = independent-le (kept vs) ds (kept-all-independent vs) (λ l h. span-trans {cs = vs} sums (kept-member vs l h))
+
+-- rank depends on the span alone
+pub rank-le : (vs ws : List ℕ) → ((j : ℕ) → j < length vs → SumOf ws (getD vs j 0)) → rank vs ≤ rank ws
+unfolding rank
+rank-le vs ws sums = rank-le-length vs (kept ws) (λ j h. span-trans {cs = ws} (kept-sum ws) (sums j h))
+
+pub rank-span : (vs ws : List ℕ) → ((j : ℕ) → j < length vs → SumOf ws (getD vs j 0)) → ((j : ℕ) → j < length ws → SumOf vs (getD ws j 0))
+    → rank vs ≡ rank ws
+rank-span vs ws there back = le-antisymm (rank-le vs ws there) (rank-le ws vs back)
+
+pub kept-all-below : (b : ℕ) (vs : List ℕ) → AllBelow b vs → AllBelow b (kept vs)
+unfolding kept
+kept-all-below b vs below l h =
+    let k : l < length (keptAt vs (length vs)) = rw length-map at h in
+    rw (members-at vs (keptAt vs (length vs)) l k) (below (getD (keptAt vs (length vs)) l 0) (kept-below vs (length vs) l k))
+
+-- numbers of k bits have rank at most k
+pub rank-width : (k : ℕ) (vs : List ℕ) → AllBelow (2 ^ k) vs → rank vs ≤ k
+unfolding rank
+rank-width k vs b = independent-width k (kept vs) (kept-all-below (2 ^ k) vs b) (kept-all-independent vs)
+
+-- the scan keeps all exactly when the list is independent
+pub independent-rank : (vs : List ℕ) → Independent vs → rank vs ≡ length vs
+unfolding rank
+independent-rank vs ind =
+    le-antisymm (rank-le-length vs vs (λ j h. sum-member vs j)) (independent-le vs (kept vs) ind (kept-sum vs))
+
+pub rank-independent : (vs : List ℕ) → rank vs ≡ length vs → Independent vs
+unfolding rank kept
+rank-independent vs full m h e =
+    let found = injective-onto (λ s k. over-below (length vs) ps (kept-below vs (length vs)) s) over-injective m h in
+    let s = found .0 in
+    let zero-mask : s ≡ 0
+          = kept-independent vs (length vs) s (rw full (found .1)) (sym (image-over vs ps s) ∙ ap (image vs) (found .2) ∙ e) in
+    sym (found .2) ∙ ap (over ps) zero-mask ∙ image-zero (units ps)
+  where
+    ps : List ℕ
+    ps = keptAt vs (length vs)
+
+    over-injective : Injective (over ps) (2 ^ length vs)
+    over-injective s t k l same =
+        independent-injective (members vs ps) (kept-independent vs (length vs)) s t (rw full k) (rw full l)
+        (sym (image-over vs ps s) ∙ ap (image vs) same ∙ image-over vs ps t)
+
+-- ---- maps, by their columns
+
+columns-sum : (n : ℕ) (f : ℕ → ℕ) {ds : List ℕ} → ((j : ℕ) → j < n → SumOf ds (f (2 ^ j)))
+    → (j : ℕ) → j < length (columns n f) → SumOf ds (getD (columns n f) j 0)
+columns-sum n f sums j h = let k : j < n = omega (arith, columns-length n f) in rw (columns-at n f j k) (sums j k)
+
+value-sum : (n : ℕ) (f : ℕ → ℕ) (j : ℕ) → j < n → SumOf (kept (columns n f)) (f (2 ^ j))
+value-sum n f j h = rw (columns-at n f j h) at (kept-sum (columns n f) j (omega (arith, columns-length n f)))
+
+-- the rank of a sum of two maps is at most the sum of the ranks
+pub rank-xor : (n : ℕ) (f g : ℕ → ℕ) → rank (columns n (λ x. bitXor (f x) (g x))) ≤ rank (columns n f) + rank (columns n g)
+unfolding rank
+rank-xor n f g =
+    rw (← length-append (kept (columns n f)) (kept (columns n g)))
+    (rank-le-length (columns n (λ x. bitXor (f x) (g x))) (kept (columns n f) ++ kept (columns n g))
+    (columns-sum n (λ x. bitXor (f x) (g x))
+    (λ j h. sum-xor (sum-left (kept (columns n g)) (value-sum n f j h)) (sum-right (kept (columns n f)) (value-sum n g j h)))))
+
+-- the rank of a composition is at most that of either map
+pub rank-after : (n : ℕ) (f g : ℕ → ℕ) → Linear g → rank (columns n (λ x. g (f x))) ≤ rank (columns n f)
+unfolding rank
+rank-after n f g linear =
+    rw (← length-map (kept (columns n f)) g)
+    (rank-le-length (columns n (λ x. g (f x))) (map g (kept (columns n f)))
+    (columns-sum n (λ x. g (f x)) (λ j h. image-of (value-sum n f j h))))
+  where
+    image-of : {v : ℕ} → SumOf (kept (columns n f)) v → SumOf (map g (kept (columns n f))) (g v)
+    image-of s =
+        rw (sym (linear-map g linear (kept (columns n f)) (s .selected)) ∙ ap g (s .sum)) at
+        (sum-image (map g (kept (columns n f))) (s .selected))
+
+pub rank-before : (n m : ℕ) (f g : ℕ → ℕ) → Linear g → ((j : ℕ) → j < n → f (2 ^ j) < 2 ^ m)
+    → rank (columns n (λ x. g (f x))) ≤ rank (columns m g)
+rank-before n m f g linear into =
+    rank-le (columns n (λ x. g (f x))) (columns m g)
+    (columns-sum n (λ x. g (f x))
+    (λ j h. rw (← linear-image m g linear (f (2 ^ j)) (into j h)) at (sum-image (columns m g) (f (2 ^ j)))))

@@ -3,7 +3,7 @@ use mathlib.Core.Path.{_≡_, refl, sym, ap, ap₂, subst, _∙_}
 use mathlib.Core.List.{List, [], _∷_, _++_, map}
 use mathlib.Core.Logic.{_⊎_, inl, inr, ⊎-elim}
 use native.Mathlib.Omega.{arith}
-use native.Mathlib.Nat.{pow-suc}
+use native.Mathlib.Nat.{pow-suc, div-eq-of-lt}
 use lib.Bits.{bitXor, xor-zero-r, xor-lt, xor-zero-l, xor-self}
 use lib.ListN.{length, getD}
 use lib.Arith.{lt-one}
@@ -78,6 +78,12 @@ image-append [] ds x = ap (image ds) (omega arith)
 image-append (c ∷ cs) ds x =
     ap (bitXor (chosen (x % 2) c)) (image-append cs ds (x / 2) ∙ ap (λ (y : ℕ). bitXor (image cs (x / 2)) (image ds y)) (shr-shr x 1 (length cs) ∙ ap (λ (e : ℕ). x / 2 ^ e) (omega arith)))
     ∙ sym (xor-assoc (chosen (x % 2) c) (image cs (x / 2)) (image ds (x / 2 ^ suc (length cs))))
+
+-- a number with no bits above the first list's needs no second list
+pub image-prefix : (cs ds : List ℕ) (x : ℕ) → x < 2 ^ length cs → image (cs ++ ds) x ≡ image cs x
+image-prefix cs ds x h =
+    image-append cs ds x ∙ ap (λ (q : ℕ). bitXor (image cs x) (image ds q)) (div-eq-of-lt h)
+    ∙ ap (bitXor (image cs x)) (image-zero ds) ∙ xor-zero-r (image cs x)
 
 pub image-snoc : (cs : List ℕ) (c x : ℕ) → image (cs ++ (c ∷ [])) x ≡ bitXor (image cs x) (chosen (x / 2 ^ length cs % 2) c)
 unfolding image

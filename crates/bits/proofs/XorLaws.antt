@@ -50,6 +50,9 @@ xor-assoc =
 pub xor-cancel : (a b : ℕ) → bitXor a (bitXor a b) ≡ b
 xor-cancel a b = sym (xor-assoc a a b) ∙ ap (λ (x : ℕ). bitXor x b) (xor-self a)
 
+pub xor-cancel-right : (a b : ℕ) → bitXor (bitXor a b) b ≡ a
+xor-cancel-right a b = xor-assoc a b b ∙ ap (bitXor a) (xor-self b) ∙ xor-zero-r a
+
 pub xor-swap : (a b c d : ℕ) → bitXor (bitXor a b) (bitXor c d) ≡ bitXor (bitXor a c) (bitXor b d)
 xor-swap a b c d =
     xor-assoc a b (bitXor c d)

@@ -76,7 +76,7 @@ scanned-sum vs {j} h =
 -- ---- the scan of a list's beginning is the beginning of its scan
 
 module _ (vs ws : List ℕ) where
-  members-prefix : (ps : List ℕ) → AllBelow (length vs) ps → members (vs ++ ws) ps ≡ members vs ps
+  pub members-prefix : (ps : List ℕ) → AllBelow (length vs) ps → members (vs ++ ws) ps ≡ members vs ps
   members-prefix [] b = refl
   members-prefix (p ∷ ps) b =
       ap₂ (λ (v : ℕ) (l : List ℕ). v ∷ l) (List·getD-append vs ws 0 p (b 0 (omega arith)))
@@ -131,8 +131,8 @@ module _ (vs : List ℕ) (i : ℕ) where
       let ps = keptAt vs n in
       let t = kept-more vs (λ p. 2 ^ p) h mask-over in
       let same : s .selected ≡ t .selected
-            = independent-injective (members vs ps) (kept-independent vs n) (s .selected) (t .selected) (by-length s) (by-length t)
-              (sym (image-over vs ps (s .selected)) ∙ ap (image vs) (s .sum) ∙ e ∙ sym mask-sum ∙ ap (image vs) (sym (t .sum)) ∙ image-over vs ps (t .selected)) in
+      = independent-injective (members vs ps) (kept-independent vs n) (s .selected) (t .selected) (by-length s) (by-length t)
+      (sym (image-over vs ps (s .selected)) ∙ ap (image vs) (s .sum) ∙ e ∙ sym mask-sum ∙ ap (image vs) (sym (t .sum)) ∙ image-over vs ps (t .selected)) in
       sym (s .sum) ∙ ap (over ps) same ∙ t .sum
     where
       by-length : {m : ℕ} (s : SumOf (units (keptAt vs n)) m) → s .selected < 2 ^ length (members vs (keptAt vs n))

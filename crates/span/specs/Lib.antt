@@ -4,3 +4,4 @@ pub mod Search
 pub mod Sums
 pub mod Scan
 pub mod Rows
+pub mod Held

@@ -1,1 +1,89 @@
-pub struct X(pub u32);
+// The scan: numbers come one by one, and one that is no sum of those kept before it is kept.
+ghost use Rattle.span.specs.Held.{Holds, Takes, Reduces};
+ghost use mathlib.Core.List.{[]};
+
+// What a scan has kept, in echelon form: the row with z leading zeros stands at z, and
+// masks[z] says which of the scanned numbers it is the sum of. count numbers were scanned.
+pub struct Scan {
+    rows: [u16; 16],
+    masks: [u32; 16],
+    count: u32,
+}
+
+pub struct Taken {
+    pub scan: Scan,
+    pub kept: bool,
+    pub mask: u32,
+}
+
+// What is left of a number once kept rows are taken away, and the mask of those rows.
+struct Reduced {
+    rest: u16,
+    mask: u32,
+}
+
+impl Scan {
+    // Nothing scanned yet.
+    pub fn new() -> Self
+        ensures { λ r. ⌜ Holds r [] ⌝ }
+    {
+        Scan {
+            rows: [0; 16],
+            masks: [0; 16],
+            count: 0,
+        }
+    }
+
+    // The scan with one number more, whether that number was kept, and its mask.
+    pub fn take(self, v: u16) -> Taken
+        ensures { λ r. ⌜ Takes self v r ⌝ }
+    {
+        let count = self.count;
+        if 32 <= count {
+            return Taken {
+                scan: self,
+                kept: false,
+                mask: 0,
+            };
+        }
+        let reduced = reduce(self, v);
+        let mask = reduced.mask;
+        let rest = reduced.rest;
+        let mut scan = self;
+        scan.count = count + 1;
+        if rest == 0 {
+            return Taken {
+                scan,
+                kept: false,
+                mask,
+            };
+        }
+        let own = bits::two_to(count);
+        let z = u16::leading_zeros(rest) as usize;
+        scan.rows[z] = rest;
+        scan.masks[z] = mask ^ own;
+        Taken {
+            scan,
+            kept: true,
+            mask: own,
+        }
+    }
+}
+
+// Takes away the row with as many leading zeros, as long as there is one: what is left is then smaller.
+fn reduce(scan: Scan, v: u16) -> Reduced
+    ensures { λ r. ⌜ Reduces scan v r ⌝ }
+{
+    let mut rest = v;
+    let mut mask = 0;
+    while rest != 0 {
+        let z = u16::leading_zeros(rest) as usize;
+        let less = rest ^ scan.rows[z];
+        if rest <= less {
+            return Reduced { rest, mask };
+        }
+        rest = less;
+        mask = mask ^ scan.masks[z];
+    }
+    Reduced { rest, mask }
+}

@@ -1,3 +1,20 @@
+-- The image under columns is a linear map, and every linear map of n bits is the image under its columns.
+--   below-one, below-append    lists of numbers below a bound
+--   image-nil, image-cons      the definition, as equations
+--   image-zero          the image of 0
+--   image-xor           the image is linear
+--   image-unit          the image of 2^j is column j
+--   image-lt            columns of m bits give images of m bits
+--   image-append        the columns of a second list take the bits above the first list's
+--   image-prefix        a number with no such bits needs no second list
+--   image-snoc          one column more
+--   image-mod           bits above the columns choose nothing
+--   linear-zero         a linear map sends 0 to 0
+--   linear-map          a linear map takes sums of columns to sums of their values
+--   image-image         the columns of B after A are the images of A's columns
+--   columns-length, columns-at    there are n columns, and column j is the value at 2^j
+--   linear-image        a linear map on the numbers of n bits is the image under its columns
+--   linear-agree        two linear maps that agree at 2^0 .. 2^(n-1) agree on all numbers of n bits
 use Prim.Native.Nat.{ℕ, zero, suc, _+_, _*_, _/_, _%_, _^_, _<_, _≤_}
 use mathlib.Core.Path.{_≡_, refl, sym, ap, ap₂, subst, _∙_}
 use mathlib.Core.List.{List, [], _∷_, _++_, map}
@@ -71,7 +88,6 @@ image-lt m (c ∷ cs) h x =
     xor-lt m (chosen (x % 2) c) (image cs (x / 2)) (chosen-lt (x % 2) c m (h 0 (omega arith)))
     (image-lt m cs (λ j l. h (suc j) (omega arith)) (x / 2))
 
--- the columns of a second list take the bits above the first list's
 pub image-append : (cs ds : List ℕ) (x : ℕ) → image (cs ++ ds) x ≡ bitXor (image cs x) (image ds (x / 2 ^ length cs))
 unfolding image
 image-append [] ds x = ap (image ds) (omega arith)
@@ -79,7 +95,6 @@ image-append (c ∷ cs) ds x =
     ap (bitXor (chosen (x % 2) c)) (image-append cs ds (x / 2) ∙ ap (λ (y : ℕ). bitXor (image cs (x / 2)) (image ds y)) (shr-shr x 1 (length cs) ∙ ap (λ (e : ℕ). x / 2 ^ e) (omega arith)))
     ∙ sym (xor-assoc (chosen (x % 2) c) (image cs (x / 2)) (image ds (x / 2 ^ suc (length cs))))
 
--- a number with no bits above the first list's needs no second list
 pub image-prefix : (cs ds : List ℕ) (x : ℕ) → x < 2 ^ length cs → image (cs ++ ds) x ≡ image cs x
 image-prefix cs ds x h =
     image-append cs ds x ∙ ap (λ (q : ℕ). bitXor (image cs x) (image ds q)) (div-eq-of-lt h)
@@ -89,7 +104,6 @@ pub image-snoc : (cs : List ℕ) (c x : ℕ) → image (cs ++ (c ∷ [])) x ≡ 
 unfolding image
 image-snoc cs c x = image-append cs (c ∷ []) x ∙ ap (bitXor (image cs x)) (xor-zero-r (chosen (x / 2 ^ length cs % 2) c))
 
--- bits above the columns choose nothing
 pub image-mod : (cs : List ℕ) (x : ℕ) → image cs (x % 2 ^ length cs) ≡ image cs x
 unfolding image
 image-mod [] x = refl
@@ -105,14 +119,12 @@ linear-chosen : (f : ℕ → ℕ) → Linear f → (b c : ℕ) → f (chosen b c
 linear-chosen f l zero c = linear-zero f l
 linear-chosen f l (suc b) c = refl
 
--- a linear map takes sums of columns to sums of their values
 pub linear-map : (f : ℕ → ℕ) → Linear f → (cs : List ℕ) (x : ℕ) → f (image cs x) ≡ image (map f cs) x
 unfolding image
 linear-map f l [] x = linear-zero f l
 linear-map f l (c ∷ cs) x =
     l (chosen (x % 2) c) (image cs (x / 2)) ∙ ap₂ bitXor (linear-chosen f l (x % 2) c) (linear-map f l cs (x / 2))
 
--- the columns of B after A are the images of A's columns
 pub image-image : (bs cs : List ℕ) (x : ℕ) → image bs (image cs x) ≡ image (map (image bs) cs) x
 image-image bs = linear-map (image bs) (image-xor bs)
 
@@ -133,7 +145,6 @@ linear-double f l x y = ap f (xor-double x y) ∙ l (2 * x) (2 * y)
 low-chosen : (x : ℕ) → x % 2 ≡ chosen (x % 2) 1
 low-chosen x = ⊎-elim (λ e. rw e) (λ e. rw e) (even-or-odd x)
 
--- a linear map on the numbers of n bits is the image under its columns
 pub linear-image : (n : ℕ) (f : ℕ → ℕ) → Linear f → (x : ℕ) → x < 2 ^ n → f x ≡ image (columns n f) x
 unfolding image columns
 linear-image zero f l x h = ap f (lt-one h) ∙ linear-zero f l
@@ -143,7 +154,6 @@ linear-image (suc n) f l x h =
     ∙ ap₂ bitXor (ap f (low-chosen x) ∙ linear-chosen f l (x % 2) 1)
     (linear-image n (λ y. f (2 * y)) (linear-double f l) (x / 2) (omega (arith, pow-suc 2 n)))
 
--- two linear maps that agree at 2^0 .. 2^(n-1) agree on all numbers of n bits
 pub linear-agree : (n : ℕ) (f g : ℕ → ℕ) → Linear f → Linear g → ((j : ℕ) → j < n → f (2 ^ j) ≡ g (2 ^ j))
     → (x : ℕ) → x < 2 ^ n → f x ≡ g x
 linear-agree n f g l m same x b =

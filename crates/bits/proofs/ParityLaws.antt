@@ -1,3 +1,13 @@
+-- Odd or even, and single bits.
+--   parity-lt, parity-zero, parity-step    parity is 0 or 1, goes bit by bit, and is 0 of 0
+--   parity-xor          the parity of an exclusive or
+--   dot-lt, dot-comm, dot-zero             dot is 0 or 1, the same either way round, and 0 with 0
+--   dot-xor, xor-dot    dot passes through exclusive or, on either side
+--   dot-step            dot goes bit by bit
+--   bit-suc             a bit of a number is the bit below it of the half
+--   unit-half, unit-low    the half and the lowest bit of 2^(j+1)
+--   dot-unit            dot with 2^j is bit j
+--   by-bits             numbers of k bits with equal bits are equal
 use Prim.Native.Nat.{ℕ, zero, suc, _+_, _*_, _/_, _%_, _^_, _<_, _≤_, min}
 use mathlib.Core.Path.{_≡_, refl, sym, ap, ap₂, _∙_}
 use native.Mathlib.Omega.{arith}

@@ -1,3 +1,17 @@
+-- Exclusive or makes numbers a group in which each is its own inverse, and AND distributes over it. Each law goes by halves:
+-- two numbers are equal where their halves are and their lowest bits are.
+--   by-halves           equal halves and equal lowest bits
+--   even-or-odd         the lowest bit is 0 or 1
+--   odd-add             sums of numbers that are odd or even alike are so too
+--   xor-half, xor-low   the half and the lowest bit of an exclusive or
+--   and-half, and-low   the same of AND
+--   xor-assoc           brackets do not matter
+--   xor-cancel, xor-cancel-right    a number twice is nothing
+--   xor-swap            the inner two of four change places
+--   xor-zero-eq         numbers whose exclusive or is 0 are equal
+--   and-xor             AND distributes over exclusive or
+--   xor-double          doubling passes through exclusive or
+--   xor-split           a number is its lowest bit and twice its half
 use Prim.Native.Nat.{ℕ, zero, suc, _+_, _*_, _/_, _%_, _^_, _<_, _≤_, min}
 use mathlib.Core.Path.{_≡_, refl, sym, ap, ap₂, _∙_}
 use mathlib.Core.Logic.{_⊎_, inl, inr}
@@ -6,7 +20,6 @@ use native.Mathlib.Nat.{add-mod, add-assoc}
 use lib.Arith.{bin-ind}
 use lib.Bits.{bitXor, bitAnd, xor-shr, and-shr, xor-add-and, xor-comm, xor-self, xor-zero-r, and-step, xor-disjoint, and-zero-r, and-comm}
 
--- equal halves and equal lowest bits
 pub by-halves : {a b : ℕ} → a / 2 ≡ b / 2 → a % 2 ≡ b % 2 → a ≡ b
 by-halves h l = omega arith
 
@@ -18,7 +31,6 @@ even-or-odd x = bit (x % 2) (omega arith)
     bit (suc zero) h = inr refl
     bit (suc (suc b)) h = absurd (omega arith)
 
--- sums of numbers that are odd or even alike are so too
 pub odd-add : (a b c d : ℕ) → a % 2 ≡ b % 2 → c % 2 ≡ d % 2 → (a + c) % 2 ≡ (b + d) % 2
 odd-add a b c d h l = add-mod a c 2 ∙ ap₂ (λ (x y : ℕ). (x + y) % 2) h l ∙ sym (add-mod b d 2)
 
@@ -46,7 +58,6 @@ xor-assoc =
     ∙ sym (odd-add a a (bitXor b c) (b + c) refl (xor-low b c))
     ∙ sym (xor-low a (bitXor b c))))
 
--- each number is its own inverse
 pub xor-cancel : (a b : ℕ) → bitXor a (bitXor a b) ≡ b
 xor-cancel a b = sym (xor-assoc a a b) ∙ ap (λ (x : ℕ). bitXor x b) (xor-self a)
 
@@ -59,7 +70,6 @@ xor-swap a b c d =
     ∙ ap (bitXor a) (sym (xor-assoc b c d) ∙ ap (λ (x : ℕ). bitXor x d) (xor-comm b c) ∙ xor-assoc c b d)
     ∙ sym (xor-assoc a c (bitXor b d))
 
--- two numbers whose exclusive or is 0 are equal
 pub xor-zero-eq : (a b : ℕ) → bitXor a b ≡ 0 → a ≡ b
 xor-zero-eq a b e = sym (xor-zero-r a) ∙ ap (bitXor a) (sym e) ∙ xor-cancel a b
 
@@ -80,7 +90,6 @@ xor-double a b =
     (double-half (bitXor a b) ∙ sym (xor-half (2 * a) (2 * b) ∙ ap₂ bitXor (double-half a) (double-half b)))
     (omega (arith, xor-low (2 * a) (2 * b)))
 
--- a number is its lowest bit and twice the rest
 pub xor-split : (x : ℕ) → x ≡ bitXor (x % 2) (2 * (x / 2))
 xor-split x =
     by-halves

@@ -23,13 +23,13 @@ pub fn image(columns: &[u16], x: u32) -> u16
     ensures { λ r. ⌜ r ≡ imageOf (now (columns .entry)) x ⌝ }
 {
     let mut sum = 0;
-    let mut rest = x;
+    let mut above = x;
     let mut j = 0;
     while j < columns.len() {
-        if rest % 2 == 1 {
+        if above % 2 == 1 {
             sum = sum ^ columns[j];
         }
-        rest = rest / 2;
+        above = above / 2;
         j += 1;
     }
     sum

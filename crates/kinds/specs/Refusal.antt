@@ -1,20 +1,48 @@
+-- What each refusal says, as 01's table 'When a tool says no' has it.
+--   numberOf r       its number
+--   portsOf r        the ports that it names: two for 11 and 13, lowest first, else none
+--   given o          the number of an answer that may be a refusal: 0 where it is none
 use Prim.Native.Nat.{ℕ}
+use mathlib.Core.List.{List, [], _∷_}
+use mathlib.Core.Option.{Option, none, some}
+use Rattle.kinds.specs.declared.Port.{Port}
 use Rattle.kinds.specs.declared.Refusal.{Refusal}
-use Rattle.kinds.specs.declared.Refusal.the-variants.{Sizes, Lengths, ColumnTooLarge, Dependent, Layout, WriteWiring, ReadWiring, SharedCell, Product, State, WriteClash, Overwrite, ReadClash, EmptyRead, Card}
+use Rattle.kinds.specs.declared.Refusal.the-variants.{Sizes, Length, TooLarge, Dependent, Layout, WriteWiring, ReadWiring, SharedCell, Differs, State, WriteClash, Overwrite, ReadClash, EmptyRead, Card}
 
 abbrev pub numberOf : Refusal → ℕ
 numberOf Sizes = 1
-numberOf Lengths = 2
-numberOf ColumnTooLarge = 3
+numberOf Length = 2
+numberOf TooLarge = 3
 numberOf Dependent = 4
 numberOf Layout = 5
 numberOf WriteWiring = 6
 numberOf ReadWiring = 7
 numberOf SharedCell = 8
-numberOf Product = 9
+numberOf Differs = 9
 numberOf State = 10
 numberOf (WriteClash p q) = 11
 numberOf Overwrite = 12
 numberOf (ReadClash p q) = 13
 numberOf EmptyRead = 14
 numberOf Card = 15
+
+abbrev pub portsOf : Refusal → List Port
+portsOf Sizes = []
+portsOf Length = []
+portsOf TooLarge = []
+portsOf Dependent = []
+portsOf Layout = []
+portsOf WriteWiring = []
+portsOf ReadWiring = []
+portsOf SharedCell = []
+portsOf Differs = []
+portsOf State = []
+portsOf (WriteClash p q) = p ∷ q ∷ []
+portsOf Overwrite = []
+portsOf (ReadClash p q) = p ∷ q ∷ []
+portsOf EmptyRead = []
+portsOf Card = []
+
+abbrev pub given : Option Refusal → ℕ
+given none = 0
+given (some r) = numberOf r

@@ -1,6 +1,8 @@
+// The board's vocabulary: four kinds of number, and the ways a tool says no.
 ghost use mathlib.Core.Path.{_≡_};
 ghost use Rattle.kinds.specs.Refusal.{numberOf};
 
+// "A cycle number may never stand where a port number belongs" (01): four kinds, and no way from one to another.
 pub struct Tick(pub u32);
 
 pub struct Port(pub u32);
@@ -9,16 +11,17 @@ pub struct Bank(pub u32);
 
 pub struct Addr(pub u32);
 
+// A case for each number of 01's table; 11 and 13 name the first two ports that want one bank.
 pub enum Refusal {
     Sizes,
-    Lengths,
-    ColumnTooLarge,
+    Length,
+    TooLarge,
     Dependent,
     Layout,
     WriteWiring,
     ReadWiring,
     SharedCell,
-    Product,
+    Differs,
     State,
     WriteClash(Port, Port),
     Overwrite,
@@ -27,19 +30,20 @@ pub enum Refusal {
     Card,
 }
 
+// The number that 01 gives a refusal.
 pub fn number(refusal: Refusal) -> u32
     ensures { λ r. ⌜ r ≡ numberOf refusal ⌝ }
 {
     match refusal {
         Refusal::Sizes => 1,
-        Refusal::Lengths => 2,
-        Refusal::ColumnTooLarge => 3,
+        Refusal::Length => 2,
+        Refusal::TooLarge => 3,
         Refusal::Dependent => 4,
         Refusal::Layout => 5,
         Refusal::WriteWiring => 6,
         Refusal::ReadWiring => 7,
         Refusal::SharedCell => 8,
-        Refusal::Product => 9,
+        Refusal::Differs => 9,
         Refusal::State => 10,
         Refusal::WriteClash(_, _) => 11,
         Refusal::Overwrite => 12,

@@ -42,7 +42,6 @@ redirected {f} {b} {y} into injective h missed = (
     top? : (i : ℕ) → Dec (f i ≡ b - 1)
     top? i = ℕ-discrete (f i) (b - 1)
 
--- Different numbers below a go to different numbers below b only where a is at most b: on the numbers below a - 1 the map misses its last value.
 pub pigeonhole : {f : ℕ → ℕ} {a b : ℕ} → Into f a b → Injective f a → a ≤ b
 pigeonhole {a = zero} into injective = zero-le
 pigeonhole {f} {a = suc a} into injective =
@@ -51,7 +50,6 @@ pigeonhole {f} {a = suc a} into injective =
     let g = redirected (λ i h. into i (le-step h)) (λ i j h k. injective i j (le-step h) (le-step k)) (into a last) missed in
     omega (arith, pigeonhole (g .1) (g .2), into a last)
 
--- An injective map of the numbers below N takes each as a value: were one missed, N would be at most N - 1.
 pub injective-onto : {f : ℕ → ℕ} {N : ℕ} → Into f N N → Injective f N → Onto f N N
 injective-onto {f} {N} into injective y h = elim (someBelow (λ i. ℕ-discrete (f i) y) N) [
   | yes found ↦ found
@@ -69,7 +67,6 @@ preimages {f} {a} {b} onto = (
     chosen : (y : ℕ) → (x : ℕ) × (y < b → (x < a) × (f x ≡ y))
     chosen y = elim (decLt y b) [ yes h ↦ (onto y h .0, λ l. (onto y h .1, onto y h .2)) | no nh ↦ (zero, λ h. absurd (nh h)) ]
 
--- A map onto the numbers below N is injective: each of them is the chosen preimage of its value.
 pub onto-injective : {f : ℕ → ℕ} {N : ℕ} → Onto f N N → Injective f N
 onto-injective onto i j h k e =
     let g = preimages onto in
@@ -77,18 +74,14 @@ onto-injective onto i j h k e =
     let z = injective-onto (g .1) (g .2) j k in
     cc (g .3 (y .0) (y .1), g .3 (z .0) (z .1), y .2, z .2)
 
--- An injective map of the numbers below N is a bijection of them.
 pub injective-bijection : {f : ℕ → ℕ} {N : ℕ} → Into f N N → Injective f N → Bijection f N
 injective-bijection into injective = record { into = into; injective = injective; onto = injective-onto into injective }
 
--- A power of two is at most another only where its exponent is.
 pub pow-injective-le : {a b : ℕ} → 2 ^ a ≤ 2 ^ b → a ≤ b
 pow-injective-le {a} {b} h = elim (decLe a b) [ yes l ↦ l | no nl ↦ absurd (omega (arith, pow-lt {i = b} {j = a} (omega arith))) ]
 
--- An injective map from a bits into b bits has a ≤ b.
 pub injective-width : {f : ℕ → ℕ} {a b : ℕ} → Into f (2 ^ a) (2 ^ b) → Injective f (2 ^ a) → a ≤ b
 injective-width into injective = pow-injective-le (pigeonhole into injective)
 
--- A map from s bits onto k bits has k ≤ s: its chosen preimages are an injective map back.
 pub onto-width : {f : ℕ → ℕ} {s k : ℕ} → Onto f (2 ^ s) (2 ^ k) → k ≤ s
 onto-width onto = let g = preimages onto in injective-width (g .1) (g .2)

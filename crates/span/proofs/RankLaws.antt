@@ -1,3 +1,11 @@
+-- Rank: how many the scan keeps. It depends on the span alone.
+--   kept-all-independent, kept-sum, kept-member, kept-all-below    what is kept of a whole list
+--   rank-le-length       a list of which each number is a sum is no shorter than the rank
+--   rank-le, rank-span   a smaller span has no greater rank; the same span has the same
+--   rank-width           numbers of k bits have rank at most k
+--   independent-rank, rank-independent    the scan keeps all exactly when the list is independent
+--   rank-xor             the rank of a sum of two maps is at most the sum of the ranks
+--   rank-after, rank-before    the rank of a composition is at most that of either map
 use Prim.Native.Nat.{ℕ, zero, suc, _+_, _^_, _≤_, _<_}
 use mathlib.Core.Path.{_≡_, refl, sym, ap, ap₂, _∙_}
 use mathlib.Core.List.{List, [], _∷_, _++_, map}
@@ -19,24 +27,20 @@ pub kept-all-independent : (vs : List ℕ) → Independent (kept vs)
 unfolding kept
 kept-all-independent vs = kept-independent vs (length vs)
 
--- each number of a list is a sum of those kept
 pub kept-sum : (vs : List ℕ) (j : ℕ) → j < length vs → SumOf (kept vs) (getD vs j 0)
 unfolding kept
 kept-sum vs j h = scanned-sum vs h
 
--- each of those kept is in the list
 pub kept-member : (vs : List ℕ) (l : ℕ) → l < length (kept vs) → SumOf vs (getD (kept vs) l 0)
 unfolding kept
 kept-member vs l h =
     let k : l < length (keptAt vs (length vs)) = rw length-map at h in
     rw (members-at vs (keptAt vs (length vs)) l k) (sum-member vs (getD (keptAt vs (length vs)) l 0))
 
--- a list of which each number is a sum is no shorter than the rank
 pub rank-le-length : (vs ds : List ℕ) → ((j : ℕ) → j < length vs → SumOf ds (getD vs j 0)) → rank vs ≤ length ds
 unfolding rank
 rank-le-length vs ds sums = independent-le (kept vs) ds (kept-all-independent vs) (λ l h. span-trans {cs = vs} sums (kept-member vs l h))
 
--- rank depends on the span alone
 pub rank-le : (vs ws : List ℕ) → ((j : ℕ) → j < length vs → SumOf ws (getD vs j 0)) → rank vs ≤ rank ws
 unfolding rank
 rank-le vs ws sums = rank-le-length vs (kept ws) (λ j h. span-trans {cs = ws} (kept-sum ws) (sums j h))
@@ -51,12 +55,10 @@ kept-all-below b vs below l h =
     let k : l < length (keptAt vs (length vs)) = rw length-map at h in
     rw (members-at vs (keptAt vs (length vs)) l k) (below (getD (keptAt vs (length vs)) l 0) (kept-below vs (length vs) l k))
 
--- numbers of k bits have rank at most k
 pub rank-width : (k : ℕ) (vs : List ℕ) → AllBelow (2 ^ k) vs → rank vs ≤ k
 unfolding rank
 rank-width k vs b = independent-width k (kept vs) (kept-all-below (2 ^ k) vs b) (kept-all-independent vs)
 
--- the scan keeps all exactly when the list is independent
 pub independent-rank : (vs : List ℕ) → Independent vs → rank vs ≡ length vs
 unfolding rank
 independent-rank vs ind =
@@ -88,7 +90,6 @@ columns-sum n f sums j h = let k : j < n = omega (arith, columns-length n f) in 
 value-sum : (n : ℕ) (f : ℕ → ℕ) (j : ℕ) → j < n → SumOf (kept (columns n f)) (f (2 ^ j))
 value-sum n f j h = rw (columns-at n f j h) at (kept-sum (columns n f) j (omega (arith, columns-length n f)))
 
--- the rank of a sum of two maps is at most the sum of the ranks
 pub rank-xor : (n : ℕ) (f g : ℕ → ℕ) → rank (columns n (λ x. bitXor (f x) (g x))) ≤ rank (columns n f) + rank (columns n g)
 unfolding rank
 rank-xor n f g =
@@ -97,7 +98,6 @@ rank-xor n f g =
     (columns-sum n (λ x. bitXor (f x) (g x))
     (λ j h. sum-xor (sum-left (kept (columns n g)) (value-sum n f j h)) (sum-right (kept (columns n f)) (value-sum n g j h)))))
 
--- the rank of a composition is at most that of either map
 pub rank-after : (n : ℕ) (f g : ℕ → ℕ) → Linear g → rank (columns n (λ x. g (f x))) ≤ rank (columns n f)
 unfolding rank
 rank-after n f g linear =

@@ -1,3 +1,16 @@
+-- The scan, for any list: what is kept, and the masks.
+--   members-at, units-at     the member and the unit at a place of a list of positions
+--   kept-independent         the numbers kept are independent
+--   kept-below               the positions kept among the first i are below i
+--   kept-more                a sum over the positions kept is one over those kept later: of members, and of units
+--   scanned-sum              each scanned number is a sum of those kept at or before it
+--   members-prefix, kept-prefix    the scan of a list's beginning is the beginning of its scan
+--   image-over               a mask over some positions selects the members there
+--   over-below               a mask over positions below i has i bits
+--   mask-sum                 each scanned number is the sum that its mask says
+--   mask-over                its mask selects kept positions, at or before it
+--   mask-unique              it is the only mask over kept positions that does
+--   mask-kept, mask-before   a kept number is its own mask; any other's selects positions before it
 use Prim.Native.Nat.{ℕ, zero, suc, _+_, _^_, _≤_, _<_}
 use mathlib.Core.Path.{_≡_, refl, sym, ap, ap₂, _∙_}
 use mathlib.Core.List.{List, [], _∷_, _++_, map, map-append}
@@ -50,25 +63,21 @@ module _ (vs ps : List ℕ) (i : ℕ) where
   step-below (no n) b l h =
       below-append (suc i) ps (i ∷ []) (λ l h. omega (arith, b l h)) (below-one (suc i) i (omega arith)) l h
 
--- the numbers kept among the first i are independent
 pub kept-independent : (vs : List ℕ) (i : ℕ) → Independent (members vs (keptAt vs i))
 unfolding keptAt
 kept-independent vs zero = independent-nil
 kept-independent vs (suc i) = step-independent vs (keptAt vs i) i (sumOf? (members vs (keptAt vs i)) (getD vs i 0)) (kept-independent vs i)
 
--- their positions are among the first i
 pub kept-below : (vs : List ℕ) (i : ℕ) → AllBelow i (keptAt vs i)
 unfolding keptAt
 kept-below vs zero l h = absurd (omega arith)
 kept-below vs (suc i) l h = step-below vs (keptAt vs i) i (sumOf? (members vs (keptAt vs i)) (getD vs i 0)) (kept-below vs i) l h
 
--- a sum over the positions kept is a sum over those kept later: of members, and of units
 pub kept-more : (vs : List ℕ) (f : ℕ → ℕ) {i k : ℕ} → i ≤ k → {v : ℕ} → SumOf (map f (keptAt vs i)) v → SumOf (map f (keptAt vs k)) v
 kept-more vs f {i} {k} h {v} s =
     le-ind (λ (k : ℕ). SumOf (map f (keptAt vs k)) v) s
     (λ k l t. unfold keptAt in step-keeps vs (keptAt vs k) k f (sumOf? (members vs (keptAt vs k)) (getD vs k 0)) t) k h
 
--- each scanned number is a sum of those kept at or before it
 pub scanned-sum : (vs : List ℕ) {j i : ℕ} → j < i → SumOf (members vs (keptAt vs i)) (getD vs j 0)
 scanned-sum vs {j} h =
     kept-more vs (λ p. getD vs p 0) h (unfold keptAt in step-sum vs (keptAt vs j) j (sumOf? (members vs (keptAt vs j)) (getD vs j 0)))
@@ -94,7 +103,6 @@ module _ (vs ws : List ℕ) where
 
 -- ---- masks
 
--- a mask over some positions selects the members there
 pub image-over : (vs ps : List ℕ) (m : ℕ) → image vs (over ps m) ≡ image (members vs ps) m
 image-over vs ps m = image-image vs (units ps) m ∙ ap (λ (cs : List ℕ). image cs m) (at-units ps)
   where
@@ -115,17 +123,14 @@ module _ (vs : List ℕ) (i : ℕ) where
   by-over ps (yes s) = sum-image (units ps) (s .selected)
   by-over ps (no n) = rw (map-append (λ p. 2 ^ p) ps (i ∷ [])) (sum-right (units ps) (sum-member (2 ^ i ∷ []) 0))
 
-  -- each scanned number is the sum that its mask says
   pub mask-sum : image vs (mask vs i) ≡ getD vs i 0
   unfolding mask
   mask-sum = by-sum (keptAt vs i) (sumOf? (members vs (keptAt vs i)) (getD vs i 0))
 
-  -- its mask selects kept positions, at or before it
   pub mask-over : SumOf (units (keptAt vs (suc i))) (mask vs i)
   unfolding mask keptAt
   mask-over = by-over (keptAt vs i) (sumOf? (members vs (keptAt vs i)) (getD vs i 0))
 
-  -- and it is the only mask over kept positions that selects it
   pub mask-unique : {n m : ℕ} → i < n → SumOf (units (keptAt vs n)) m → image vs m ≡ getD vs i 0 → m ≡ mask vs i
   mask-unique {n} {m} h s e =
       let ps = keptAt vs n in
@@ -138,7 +143,6 @@ module _ (vs : List ℕ) (i : ℕ) where
       by-length : {m : ℕ} (s : SumOf (units (keptAt vs n)) m) → s .selected < 2 ^ length (members vs (keptAt vs n))
       by-length s = rw (length-map (keptAt vs n) (λ p. getD vs p 0), ← length-map (keptAt vs n) (λ p. 2 ^ p)) (s .below)
 
-  -- a kept number is its own mask; any other's mask selects positions before it
   pub mask-kept : Kept vs i → mask vs i ≡ 2 ^ i
   unfolding mask
   mask-kept k = go (sumOf? (members vs (keptAt vs i)) (getD vs i 0))

@@ -1,3 +1,17 @@
+-- Sums of a list, and lists that are independent.
+--   length-snoc         one member more
+--   sum-image           any number serves as a mask: its bits above the list select nothing
+--   sum-zero, sum-xor   0 is a sum, and so is the exclusive or of two sums
+--   sum-member          each member is a sum
+--   sum-trans, span-trans    sums of sums are sums
+--   sum-left, sum-right      sums of a part are sums of the whole
+--   independent-injective, injective-independent    independent: no two masks select one sum
+--   independent-nil     the empty list is independent
+--   independent-snoc    a number that is no sum of an independent list leaves it independent
+--   independent-le      an independent list of sums of another is no longer than that one
+--   independent-width   an independent list of numbers of k bits has at most k members
+--   spanning-width      a list of which every number of k bits is a sum has at least k members
+--   independent-bijection, bijection-independent    n columns of n bits are independent exactly when their image is a bijection
 use Prim.Native.Nat.{ℕ, zero, suc, _+_, _*_, _/_, _%_, _^_, _≤_, _<_}
 use mathlib.Core.Path.{_≡_, refl, sym, ap, ap₂, _∙_}
 use mathlib.Core.List.{List, [], _∷_, _++_, map}
@@ -19,7 +33,6 @@ use Rattle.span.proofs.Counting.{injective-width, onto-width, injective
 pub length-snoc : (cs : List ℕ) (v : ℕ) → length (cs ++ (v ∷ [])) ≡ suc (length cs)
 length-snoc cs v = length-append cs (v ∷ []) ∙ add-one (length cs)
 
--- any number serves as a mask: its bits above the list select nothing
 pub sum-image : (cs : List ℕ) (m : ℕ) → SumOf cs (image cs m)
 sum-image cs m = record { selected = m % 2 ^ length cs; below = mod-lt m (pow-pos (length cs)); sum = image-mod cs m }
 
@@ -36,7 +49,6 @@ sum-chosen : {ds : List ℕ} (b : ℕ) {v : ℕ} → SumOf ds v → SumOf ds (ch
 sum-chosen {ds} zero s = sum-zero ds
 sum-chosen (suc b) s = s
 
--- sums of sums are sums
 pub sum-trans : (cs ds : List ℕ) → ((j : ℕ) → j < length cs → SumOf ds (getD cs j 0)) → (m : ℕ) → SumOf ds (image cs m)
 sum-trans [] ds h m = rw image-nil (sum-zero ds)
 sum-trans (c ∷ cs) ds h m =
@@ -51,7 +63,6 @@ sum-left {cs} ds = span-trans {cs = cs} (λ j h. rw (List·getD-append cs ds 0 j
 pub sum-right : (cs : List ℕ) {ds : List ℕ} {v : ℕ} → SumOf ds v → SumOf (cs ++ ds) v
 sum-right cs {ds} = span-trans {cs = ds} (λ j h. rw (getD-append-add cs ds j 0) at (sum-member (cs ++ ds) (length cs + j)))
 
--- independent: no two masks select one sum
 pub independent-injective : (cs : List ℕ) → Independent cs → Injective (image cs) (2 ^ length cs)
 independent-injective cs ind i j h k e =
     xor-zero-eq i j
@@ -63,7 +74,6 @@ injective-independent cs inj m h e = inj m 0 h (pow-pos (length cs)) (e ∙ sym 
 pub independent-nil : Independent []
 independent-nil m h e = lt-one h
 
--- a number that is no sum of an independent list leaves it independent
 pub independent-snoc : (cs : List ℕ) (v : ℕ) → Independent cs → ¬ SumOf cs v → Independent (cs ++ (v ∷ []))
 independent-snoc cs v ind out m h e = go (m / 2 ^ length cs) refl
   where
@@ -80,7 +90,6 @@ independent-snoc cs v ind out m h e = go (m / 2 ^ length cs) refl
     go (suc zero) z = absurd (out (rw (xor-zero-eq (image cs m) v (rw z at sum)) at (sum-image cs m)))
     go (suc (suc q)) z = absurd (omega (arith, short))
 
--- an independent list of sums of another is no longer than that one
 pub independent-le : (cs ds : List ℕ) → Independent cs → ((j : ℕ) → j < length cs → SumOf ds (getD cs j 0)) → length cs ≤ length ds
 independent-le cs ds ind sums = injective-width {f = λ m. sum-trans cs ds sums m .selected}
     (λ m h. sum-trans cs ds sums m .below)
@@ -88,15 +97,12 @@ independent-le cs ds ind sums = injective-width {f = λ m. sum-trans cs ds sums 
     independent-injective cs ind i j h k
     (sym (sum-trans cs ds sums i .sum) ∙ ap (image ds) e ∙ sum-trans cs ds sums j .sum))
 
--- an independent list of numbers of k bits has at most k members
 pub independent-width : (k : ℕ) (cs : List ℕ) → AllBelow (2 ^ k) cs → Independent cs → length cs ≤ k
 independent-width k cs b ind = injective-width (λ m h. image-lt k cs b m) (independent-injective cs ind)
 
--- a list of which every number of k bits is a sum has at least k members
 pub spanning-width : (k : ℕ) (cs : List ℕ) → ((v : ℕ) → v < 2 ^ k → SumOf cs v) → k ≤ length cs
 spanning-width k cs sums = onto-width {f = image cs} (λ v h. (sums v h .selected, sums v h .below, sums v h .sum))
 
--- n columns of n bits are independent exactly when their image is a bijection
 pub independent-bijection : (n : ℕ) (cs : List ℕ) → length cs ≡ n → AllBelow (2 ^ n) cs → Independent cs → Bijection (image cs) (2 ^ n)
 independent-bijection n cs e b ind = injective-bijection (λ m h. image-lt n cs b m) (rw e at (independent-injective cs ind))
 

@@ -77,13 +77,13 @@ fn reduce(scan: Scan, v: u16) -> Reduced
     let mut rest = v;
     let mut mask = 0;
     while rest != 0 {
-        let z = u16::leading_zeros(rest) as usize;
-        let less = rest ^ scan.rows[z];
+        let at = u16::leading_zeros(rest) as usize;
+        let less = rest ^ scan.rows[at];
         if rest <= less {
             return Reduced { rest, mask };
         }
         rest = less;
-        mask = mask ^ scan.masks[z];
+        mask = mask ^ scan.masks[at];
     }
     Reduced { rest, mask }
 }

@@ -1,4 +1,4 @@
--- `bits::image` meets its contract. The invariant: the sum so far, and the image of the rest under the columns to come, make the image of the whole.
+-- `bits::image` meets its contract. The invariant: the sum so far, and the image of the above under the columns to come, make the image of the whole.
 use Prim.Native.Nat.{ℕ, suc, _+_, _-_, _/_, _%_, _<_, _≤_}
 use mathlib.Core.Path.{_≡_, refl, sym, ap, _∙_}
 use mathlib.Core.List.{List}
@@ -15,43 +15,43 @@ use Rattle.bits.proofs.ImageLaws.{image-nil, image-cons}
 use Rattle.bits.proofs.image.Statement.{statement}
 use Rattle.bits.proofs.image.Tie as tie
 
-record Summed (columns : List ℕ) (x sum rest j : ℕ) : Type 0 where
+record Summed (columns : List ℕ) (x sum above j : ℕ) : Type 0 where
   within : j ≤ length columns
-  whole : image columns x ≡ bitXor sum (image (drop j columns) rest)
+  whole : image columns x ≡ bitXor sum (image (drop j columns) above)
 
-module _ {columns : List ℕ} {x sum rest j : ℕ} (next : ℕ) (i : Summed columns x sum rest j) (h : j < length columns) where
-  more : next ≡ bitXor sum (chosen (rest % 2) (getD columns j 0)) → Summed columns x next (rest / 2) (j + 1)
+module _ {columns : List ℕ} {x sum above j : ℕ} (next : ℕ) (i : Summed columns x sum above j) (h : j < length columns) where
+  more : next ≡ bitXor sum (chosen (above % 2) (getD columns j 0)) → Summed columns x next (above / 2) (j + 1)
   more e = record {
     within = omega arith;
     whole =
         i .whole
-        ∙ ap (λ (l : List ℕ). bitXor sum (image l rest)) (drop-cons columns j 0 h)
-        ∙ ap (bitXor sum) (image-cons (getD columns j 0) (drop (suc j) columns) rest)
-        ∙ sym (xor-assoc sum (chosen (rest % 2) (getD columns j 0)) (image (drop (suc j) columns) (rest / 2)))
+        ∙ ap (λ (l : List ℕ). bitXor sum (image l above)) (drop-cons columns j 0 h)
+        ∙ ap (bitXor sum) (image-cons (getD columns j 0) (drop (suc j) columns) above)
+        ∙ sym (xor-assoc sum (chosen (above % 2) (getD columns j 0)) (image (drop (suc j) columns) (above / 2)))
         ∙ rw (add-one, e) refl;
   }
 
-  more-set : rest % 2 ≡ 1 → next ≡ bitXor sum (getD columns j 0) → Summed columns x next (rest / 2) (j + 1)
+  more-set : above % 2 ≡ 1 → next ≡ bitXor sum (getD columns j 0) → Summed columns x next (above / 2) (j + 1)
   more-set b e = more (e ∙ ap (λ (c : ℕ). bitXor sum (chosen c (getD columns j 0))) (sym b))
 
-  more-unset : (rest % 2 ≡ 1 → ⊥) → next ≡ sum → Summed columns x next (rest / 2) (j + 1)
+  more-unset : (above % 2 ≡ 1 → ⊥) → next ≡ sum → Summed columns x next (above / 2) (j + 1)
   more-unset b e =
-      let z : rest % 2 ≡ 0 = omega arith in
+      let z : above % 2 ≡ 0 = omega arith in
       more (e ∙ sym (ap (λ (c : ℕ). bitXor sum (chosen c (getD columns j 0))) z ∙ xor-zero-r sum))
 
-done : {columns : List ℕ} {x sum rest j : ℕ} → Summed columns x sum rest j → length columns ≤ j → sum ≡ image columns x
-done {columns} {x} {sum} {rest} {j} i h =
+done : {columns : List ℕ} {x sum above j : ℕ} → Summed columns x sum above j → length columns ≤ j → sum ≡ image columns x
+done {columns} {x} {sum} {above} {j} i h =
     sym
     (i .whole
-    ∙ ap (λ (l : List ℕ). bitXor sum (image l rest)) (drop-of-length-le columns h)
-    ∙ ap (bitXor sum) (image-nil rest)
+    ∙ ap (λ (l : List ℕ). bitXor sum (image l above)) (drop-of-length-le columns h)
+    ∙ ap (bitXor sum) (image-nil above)
     ∙ xor-zero-r sum)
 
 abbrev Inv-loop : tie.InvT-loop
-Inv-loop columns x sum₀ rest₀ j₀ sum rest j = Summed columns x sum rest j
+Inv-loop columns x sum₀ above₀ j₀ sum above j = Summed columns x sum above j
 
 abbrev μ-loop : tie.MeasureT-loop
-μ-loop columns x sum₀ rest₀ j₀ sum rest j = length columns - j
+μ-loop columns x sum₀ above₀ j₀ sum above j = length columns - j
 
 loop-holds : tie.Need-loop-holds Inv-loop μ-loop
 loop-holds c = record { within = omega arith; whole = refl }

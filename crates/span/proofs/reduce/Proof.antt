@@ -63,8 +63,8 @@ abbrev μ-loop : tie.MeasureT-loop
 loop-holds : tie.Need-loop-holds Inv-loop μ-loop
 loop-holds c = start (c .fits .v .fits)
 
-cast-z : tie.Need-cast-z Inv-loop μ-loop
-cast-z c = omega (arith, index (c .before .loop .inv) (c .loop-test .taken))
+cast-at : tie.Need-cast-at Inv-loop μ-loop
+cast-at c = omega (arith, index (c .before .loop .inv) (c .loop-test .taken))
 
 mul-less : tie.Need-mul-less Inv-loop μ-loop
 mul-less c = omega (arith, index (c .before .loop .inv) (c .loop-test .taken))
@@ -97,7 +97,7 @@ reduce-spec =
     Inv-loop
     μ-loop
     loop-holds
-    cast-z
+    cast-at
     mul-less
     element-copy-out-less
     returns

@@ -1,0 +1,32 @@
+-- The sizes of an edition of the sheet (01, 'Orders, ticks and ports' and 'What a sheet holds').
+--   Sizes          greatest n and k, most stages of a side, and places left over at a side's end
+--   edition1       01's sizes
+--   side e         places of one side: an address column for each bit of n, a wiring column for each of k, the count, two for a stage, the rest
+--   sheet e        places of a sheet: the write side, then the read side
+--   SizedN e n     n is within the sizes
+--   Sized e n k    n and k are
+use Prim.Native.Nat.{ℕ, _+_, _*_, _≤_, min}
+
+pub record Sizes : Type 0 where
+  pub most-n : ℕ
+  pub most-k : ℕ
+  pub most-stages : ℕ
+  pub left-over : ℕ
+
+abbrev pub edition1 : Sizes
+edition1 = record { most-n = 10; most-k = 5; most-stages = 8; left-over = 0 }
+
+abbrev pub side : Sizes → ℕ
+side e = e .most-n + e .most-k + 1 + 2 * e .most-stages + e .left-over
+
+abbrev pub sheet : Sizes → ℕ
+sheet e = 2 * side e
+
+pub record SizedN (e : Sizes) (n : ℕ) : Type 0 where
+  pub least : 1 ≤ n
+  pub most : n ≤ e .most-n
+
+pub record Sized (e : Sizes) (n k : ℕ) : Type 0 where
+  pub frame : SizedN e n
+  pub least : 1 ≤ k
+  pub most : k ≤ min n (e .most-k)

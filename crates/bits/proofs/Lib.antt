@@ -1,3 +1,4 @@
 pub mod XorLaws
 pub mod ParityLaws
 pub mod ImageLaws
+pub mod Cases

@@ -3,12 +3,12 @@
 --   made-more              what a mask selects stays so when a number is added
 --   made-sum               what a mask over kept positions selects is a sum of kept numbers
 --   row-narrow             a row has 16 bits
---   holds-none             a scan without rows holds the empty list
---   next-old               taking a number that the rows make up
---   next-new               taking one that leaves a rest, which becomes a row
+--   echelon-none           no row, for the empty list
+--   echelon-old, mask-old  the same rows, for a number that they make up; its mask
+--   echelon-new, mask-new  the rest of a number that they don't make up is a row of its own; its mask
+--   kept-rest              such a number is kept
 use Prim.Native.Nat.{ℕ, zero, suc, _+_, _^_, _<_, _≤_}
 use mathlib.Core.Path.{_≡_, refl, sym, ap, ap₂, _∙_}
-use mathlib.Core.Bool.{Bool, true, false}
 use mathlib.Core.List.{List, [], _∷_, _++_}
 use mathlib.Core.Logic.{_≢_, _⊎_, inl, inr}
 use native.Mathlib.Decide.{ℕ-discrete, decLt}
@@ -16,16 +16,14 @@ use native.Mathlib.Numerals.{add-one}
 use native.Mathlib.Omega.{arith}
 use lib.Bits.{bitXor, xor-self, xor-comm}
 use lib.Count.{leadingZeros}
-use lib.ListN.{length, getD, set, length-set}
+use lib.ListN.{length, getD, set, length-set, replicate, getD-replicate, List·getD-eq-default}
 use lib.Seq.{getD-set-same, getD-set-other}
 use Rattle.bits.specs.Image.{image, AllBelow}
 use Rattle.bits.proofs.XorLaws.{xor-assoc, xor-cancel, xor-cancel-right, xor-zero-eq}
 use Rattle.bits.proofs.ImageLaws.{below-append, below-one, image-nil, image-zero, image-xor, image-lt, image-prefix}
 use Rattle.span.specs.Sums.{SumOf}
 use Rattle.span.specs.Scan.{members, keptAt, kept, Kept, units, mask}
-use Rattle.span.specs.Held.{Made, row, Holds, Next}
-use Rattle.span.specs.declared.Scan.{Scan}
-use Rattle.span.specs.declared.Taken.{Taken}
+use Rattle.span.specs.Held.{Made, Echelon}
 use Rattle.span.proofs.SumLaws.{length-snoc, sum-image, sum-zero, sum-xor}
 use Rattle.span.proofs.ScanLaws.{kept-below, kept-prefix, kept-more, image-over, over-below, mask-sum, mask-over, mask-unique, mask-kept}
 use Rattle.span.proofs.RankLaws.{kept-all-below}
@@ -41,10 +39,10 @@ made-xor {vs} {m} {n} a b = record {
   sum = image-xor vs m n ∙ ap₂ bitXor (a .sum) (b .sum);
 }
 
-pub row-narrow : {scan : Scan} {vs : List ℕ} → Holds scan vs → (z : ℕ) → row scan z < 2 ^ 16
-row-narrow {scan} {vs} h z = elim (ℕ-discrete (row scan z) 0) [
+pub row-narrow : {rows masks vs : List ℕ} → Echelon rows masks vs → (z : ℕ) → getD rows z 0 < 2 ^ 16
+row-narrow {rows} {masks} {vs} h z = elim (ℕ-discrete (getD rows z 0) 0) [
   | yes e ↦ omega arith
-  | no there ↦ rw (h .sound z there .sum) at (image-lt 16 vs (h .narrow) (getD (scan .masks) z 0))
+  | no there ↦ rw (h .sound z there .sum) at (image-lt 16 vs (h .narrow) (getD masks z 0))
 ]
 
 pub made-sum : {vs : List ℕ} {m w : ℕ} → Made vs m w → SumOf (kept vs) w
@@ -82,45 +80,43 @@ module _ (vs : List ℕ) (v : ℕ) where
   own-mask a =
       mask-unique more (length vs) (omega arith) (rw (length-snoc vs v) at (a .over-kept)) (a .sum ∙ sym (next-at vs v))
 
-pub holds-none : {scan : Scan} → length (scan .rows) ≡ 16 → length (scan .masks) ≡ 16 → scan .count ≡ 0
-    → ((z : ℕ) → row scan z ≡ 0) → Holds scan []
+pub echelon-none : (masks : List ℕ) → length masks ≡ 16 → Echelon (replicate 16 0) masks []
 unfolding kept keptAt
-holds-none r m e none = record {
-  row-places = r;
+echelon-none masks m = record {
+  row-places = refl;
   mask-places = m;
-  counted = e;
   narrow = λ j h. absurd (omega arith);
-  leading = λ z there. absurd (there (none z));
-  sound = λ z there. absurd (there (none z));
+  leading = λ z there. absurd (there (zeros z));
+  sound = λ z there. absurd (there (zeros z));
   complete = λ w s n. absurd (n (sym (s .sum) ∙ image-nil (s .selected)));
 }
-
-pub next-old : {scan : Scan} {vs : List ℕ} {v m : ℕ} → v < 2 ^ 16 → Holds scan vs → Made vs m v
-    → Next vs v (record { scan = record { rows = scan .rows; masks = scan .masks; count = scan .count + 1 }; kept = false; mask = m })
-next-old {scan} {vs} {v} {m} fits h a = record {
-  holds = record {
-    row-places = h .row-places;
-    mask-places = h .mask-places;
-    counted = omega (arith, h .counted, length-snoc vs v);
-    narrow = narrow-more vs v fits (h .narrow);
-    leading = h .leading;
-    sound = λ z there. made-more vs v (h .sound z there);
-    complete = λ w s. h .complete w (rw (kept-old vs v (made-sum a)) at s);
-  };
-  keeps = (λ e. absurd (false≢true e), λ k. absurd (Kept-snoc vs v .0 k (made-sum a)));
-  masked = own-mask vs v (made-more vs v a);
-}
   where
-    false≢true : false ≡ true → ⊥
-    false≢true e = let z : _≡_ {A = ℕ} 0 1 = cc in omega arith
+    zeros : (z : ℕ) → getD {A = ℕ} (replicate 16 0) z 0 ≡ 0
+    zeros z = elim (decLt z 16) [
+      | yes h ↦ getD-replicate 16 z 0 0 h
+      | no out ↦ List·getD-eq-default {A = ℕ} (replicate 16 0) 0 {n = z} (omega arith)
+    ]
 
-module _ {scan : Scan} {vs : List ℕ} (v : ℕ) {m rest own : ℕ} (fits : v < 2 ^ 16) (rest-fits : rest < 2 ^ 16) (h : Holds scan vs)
-    (a : Made vs m (bitXor v rest)) (left : rest ≢ 0) (stuck : row scan (leadingZeros 16 rest) ≡ 0) (own-is : own ≡ 2 ^ scan .count) where
+pub echelon-old : {rows masks vs : List ℕ} {v m : ℕ} → v < 2 ^ 16 → Echelon rows masks vs → Made vs m v → Echelon rows masks (vs ++ (v ∷ []))
+echelon-old {vs = vs} {v} fits h a = record {
+  row-places = h .row-places;
+  mask-places = h .mask-places;
+  narrow = narrow-more vs v fits (h .narrow);
+  leading = h .leading;
+  sound = λ z there. made-more vs v (h .sound z there);
+  complete = λ w s. h .complete w (rw (kept-old vs v (made-sum a)) at s);
+}
+
+pub mask-old : {vs : List ℕ} {v m : ℕ} → Made vs m v → m ≡ mask (vs ++ (v ∷ [])) (length vs)
+mask-old {vs} {v} a = own-mask vs v (made-more vs v a)
+
+module _ {rows masks vs : List ℕ} (v : ℕ) {m rest own : ℕ} (fits : v < 2 ^ 16) (rest-fits : rest < 2 ^ 16) (h : Echelon rows masks vs)
+    (a : Made vs m (bitXor v rest)) (left : rest ≢ 0) (stuck : getD rows (leadingZeros 16 rest) 0 ≡ 0) (own-is : own ≡ 2 ^ length vs) where
   abbrev z : ℕ
   z = leadingZeros 16 rest
 
-  abbrev grown : Scan
-  grown = record { rows = set (scan .rows) z rest; masks = set (scan .masks) z (bitXor m own); count = scan .count + 1 }
+  abbrev row : ℕ → ℕ
+  row y = getD (set rows z rest) y 0
 
   -- were v a sum of those kept, so would be the rest
   new : ¬ SumOf (kept vs) v
@@ -129,42 +125,45 @@ module _ {scan : Scan} {vs : List ℕ} (v : ℕ) {m rest own : ℕ} (fits : v < 
   z-place : z < 16
   z-place = leading-lt 16 rest rest-fits left
 
-  row-at : row grown z ≡ rest
-  row-at = getD-set-same (scan .rows) z rest 0 (omega (arith, z-place, h .row-places))
+  row-at : row z ≡ rest
+  row-at = getD-set-same rows z rest 0 (omega (arith, z-place, h .row-places))
 
-  row-other : (y : ℕ) → y ≢ z → row grown y ≡ row scan y
-  row-other y n = getD-set-other (scan .rows) z y rest 0 n
+  row-other : (y : ℕ) → y ≢ z → row y ≡ getD rows y 0
+  row-other y n = getD-set-other rows z y rest 0 n
 
-  own-mask-is : own ≡ mask (vs ++ (v ∷ [])) (length vs)
-  own-mask-is = own-is ∙ ap (λ (n : ℕ). 2 ^ n) (h .counted) ∙ sym (mask-kept (vs ++ (v ∷ [])) (length vs) (Kept-snoc vs v .1 new))
+  pub kept-rest : Kept (vs ++ (v ∷ [])) (length vs)
+  kept-rest = Kept-snoc vs v .1 new
+
+  pub mask-new : own ≡ mask (vs ++ (v ∷ [])) (length vs)
+  mask-new = own-is ∙ sym (mask-kept (vs ++ (v ∷ [])) (length vs) kept-rest)
 
   made-rest : Made (vs ++ (v ∷ [])) (bitXor m own) rest
   made-rest =
-      let by-own : Made (vs ++ (v ∷ [])) own v = rw own-mask-is (made-own vs v) in
+      let by-own : Made (vs ++ (v ∷ [])) own v = rw mask-new (made-own vs v) in
       rw (ap (λ (x : ℕ). bitXor x v) (xor-comm v rest) ∙ xor-cancel-right rest v) at (made-xor (made-more vs v a) by-own)
 
-  grown-leading : (y : ℕ) → row grown y ≢ 0 → leadingZeros 16 (row grown y) ≡ y
-  grown-leading y there = elim (ℕ-discrete y z) [
-    | yes e ↦ ap (λ (x : ℕ). leadingZeros 16 (row grown x)) e ∙ ap (leadingZeros 16) row-at ∙ sym e
+  leading-new : (y : ℕ) → row y ≢ 0 → leadingZeros 16 (row y) ≡ y
+  leading-new y there = elim (ℕ-discrete y z) [
+    | yes e ↦ ap (λ (x : ℕ). leadingZeros 16 (row x)) e ∙ ap (leadingZeros 16) row-at ∙ sym e
     | no n ↦ rw (row-other y n) (h .leading y (λ e. there (row-other y n ∙ e)))
   ]
 
-  grown-sound : (y : ℕ) → row grown y ≢ 0 → Made (vs ++ (v ∷ [])) (getD (grown .masks) y 0) (row grown y)
-  grown-sound y there = elim (ℕ-discrete y z) [
-    | yes e ↦ rw (e, row-at, getD-set-same (scan .masks) z (bitXor m own) 0 (omega (arith, z-place, h .mask-places))) made-rest
-    | no n ↦ rw (row-other y n, getD-set-other (scan .masks) z y (bitXor m own) 0 n)
+  sound-new : (y : ℕ) → row y ≢ 0 → Made (vs ++ (v ∷ [])) (getD (set masks z (bitXor m own)) y 0) (row y)
+  sound-new y there = elim (ℕ-discrete y z) [
+    | yes e ↦ rw (e, row-at, getD-set-same masks z (bitXor m own) 0 (omega (arith, z-place, h .mask-places))) made-rest
+    | no n ↦ rw (row-other y n, getD-set-other masks z y (bitXor m own) 0 n)
         (made-more vs v (h .sound y (λ e. there (row-other y n ∙ e))))
   ]
 
   -- a row is there at z, and where one was before
-  there-new : (y : ℕ) → y ≡ z → row grown y ≢ 0
+  there-new : (y : ℕ) → y ≡ z → row y ≢ 0
   there-new y e = rw (e, row-at) left
 
-  there-old : (y : ℕ) → row scan y ≢ 0 → row grown y ≢ 0
+  there-old : (y : ℕ) → getD rows y 0 ≢ 0 → row y ≢ 0
   there-old y there = elim (ℕ-discrete y z) [ yes e ↦ there-new y e | no n ↦ rw (row-other y n) there ]
 
   -- w less the rest is a sum of those kept before: it is 0, or begins where another row does, above z or below
-  complete-rest : (w : ℕ) → w ≢ 0 → SumOf (kept vs) (bitXor rest w) → row grown (leadingZeros 16 w) ≢ 0
+  complete-rest : (w : ℕ) → w ≢ 0 → SumOf (kept vs) (bitXor rest w) → row (leadingZeros 16 w) ≢ 0
   complete-rest w n s = elim (ℕ-discrete (bitXor rest w) 0) [
     | yes e ↦ there-new (leadingZeros 16 w) (ap (leadingZeros 16) (sym (xor-zero-eq rest w e)))
     | no d ↦ beside (h .complete (bitXor rest w) s d)
@@ -176,39 +175,35 @@ module _ {scan : Scan} {vs : List ℕ} (v : ℕ) {m rest own : ℕ} (fits : v < 
       u-narrow : u < 2 ^ 16
       u-narrow = rw (s .sum) at (image-lt 16 (kept vs) (kept-all-below (2 ^ 16) vs (h .narrow)) (s .selected))
 
-      beside : row scan (leadingZeros 16 u) ≢ 0 → row grown (leadingZeros 16 w) ≢ 0
+      above : leadingZeros 16 u < z → leadingZeros 16 w ≡ leadingZeros 16 u
+      above l = ap (leadingZeros 16) (sym (xor-comm u rest ∙ xor-cancel rest w)) ∙ leading-xor 16 u rest u-narrow rest-fits l
+
+      below : z < leadingZeros 16 u → leadingZeros 16 w ≡ z
+      below l = ap (leadingZeros 16) (sym (xor-cancel rest w)) ∙ leading-xor 16 rest u rest-fits u-narrow l
+
+      beside : getD rows (leadingZeros 16 u) 0 ≢ 0 → row (leadingZeros 16 w) ≢ 0
       beside there = elim (decLt (leadingZeros 16 u) z) [
-        | yes l ↦
-            let same : leadingZeros 16 w ≡ leadingZeros 16 u
-            = ap (leadingZeros 16) (sym (xor-comm u rest ∙ xor-cancel rest w)) ∙ leading-xor 16 u rest u-narrow rest-fits l in
-            rw same (there-old (leadingZeros 16 u) there)
-        | no n ↦
-            let apart : leadingZeros 16 u ≢ z = λ e. there (ap (row scan) e ∙ stuck) in
-            there-new (leadingZeros 16 w)
-            (ap (leadingZeros 16) (sym (xor-cancel rest w)) ∙ leading-xor 16 rest u rest-fits u-narrow (omega arith))
+        | yes l ↦ rw (above l) (there-old (leadingZeros 16 u) there)
+        | no n ↦ let apart : leadingZeros 16 u ≢ z = λ e. there (ap (λ (y : ℕ). getD rows y 0) e ∙ stuck) in
+            there-new (leadingZeros 16 w) (below (omega arith))
       ]
 
-  grown-complete : (w : ℕ) → SumOf (kept (vs ++ (v ∷ []))) w → w ≢ 0 → row grown (leadingZeros 16 w) ≢ 0
-  grown-complete w s n = go (sum-snoc (kept vs) v w (rw (kept-new vs v new) at s))
+  complete-new : (w : ℕ) → SumOf (kept (vs ++ (v ∷ []))) w → w ≢ 0 → row (leadingZeros 16 w) ≢ 0
+  complete-new w s n = go (sum-snoc (kept vs) v w (rw (kept-new vs v new) at s))
     where
       rest-for-v : bitXor (bitXor w v) (bitXor v rest) ≡ bitXor rest w
       rest-for-v = xor-assoc w v (bitXor v rest) ∙ ap (bitXor w) (xor-cancel v rest) ∙ xor-comm w rest
 
-      go : SumOf (kept vs) w ⊎ SumOf (kept vs) (bitXor w v) → row grown (leadingZeros 16 w) ≢ 0
+      go : SumOf (kept vs) w ⊎ SumOf (kept vs) (bitXor w v) → row (leadingZeros 16 w) ≢ 0
       go (inl old) = there-old (leadingZeros 16 w) (h .complete w old n)
       go (inr less-v) = complete-rest w n (rw rest-for-v at (sum-xor less-v (made-sum a)))
 
-  pub next-new : Next vs v (record { scan = grown; kept = true; mask = own })
-  next-new = record {
-    holds = record {
-      row-places = length-set (scan .rows) z rest ∙ h .row-places;
-      mask-places = length-set (scan .masks) z (bitXor m own) ∙ h .mask-places;
-      counted = omega (arith, h .counted, length-snoc vs v);
-      narrow = narrow-more vs v fits (h .narrow);
-      leading = grown-leading;
-      sound = grown-sound;
-      complete = grown-complete;
-    };
-    keeps = (λ e. Kept-snoc vs v .1 new, λ k. refl);
-    masked = own-mask-is;
+  pub echelon-new : Echelon (set rows z rest) (set masks z (bitXor m own)) (vs ++ (v ∷ []))
+  echelon-new = record {
+    row-places = length-set rows z rest ∙ h .row-places;
+    mask-places = length-set masks z (bitXor m own) ∙ h .mask-places;
+    narrow = narrow-more vs v fits (h .narrow);
+    leading = leading-new;
+    sound = sound-new;
+    complete = complete-new;
   }

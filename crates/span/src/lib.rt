@@ -1,5 +1,6 @@
 // The scan: numbers come one by one, and one that is no sum of those kept before it is kept.
-ghost use Rattle.span.specs.Held.{Holds, Takes, Reduces};
+ghost use Rattle.span.specs.Held.{Holds, Reduces};
+ghost use Rattle.span.specs.Take.{Takes};
 ghost use mathlib.Core.List.{[]};
 
 // What a scan has kept, in echelon form: the row with z leading zeros stands at z, and
@@ -35,7 +36,7 @@ impl Scan {
     }
 
     // The scan with one number more, whether that number was kept, and its mask.
-    pub fn take(self, v: u16) -> Taken
+    pub fn take(mut self, v: u16) -> Taken
         ensures { λ r. ⌜ Takes self v r ⌝ }
     {
         let count = self.count;
@@ -46,24 +47,23 @@ impl Scan {
                 mask: 0,
             };
         }
-        let reduced = reduce(self, v);
+        self.count = count + 1;
+        let reduced = reduce(&self.rows, &self.masks, v);
         let mask = reduced.mask;
         let rest = reduced.rest;
-        let mut scan = self;
-        scan.count = count + 1;
         if rest == 0 {
             return Taken {
-                scan,
+                scan: self,
                 kept: false,
                 mask,
             };
         }
         let own = bits::two_to(count);
         let z = u16::leading_zeros(rest) as usize;
-        scan.rows[z] = rest;
-        scan.masks[z] = mask ^ own;
+        self.rows[z] = rest;
+        self.masks[z] = mask ^ own;
         Taken {
-            scan,
+            scan: self,
             kept: true,
             mask: own,
         }
@@ -71,19 +71,19 @@ impl Scan {
 }
 
 // Takes away the row with as many leading zeros, as long as there is one: what is left is then smaller.
-fn reduce(scan: Scan, v: u16) -> Reduced
-    ensures { λ r. ⌜ Reduces scan v r ⌝ }
+fn reduce<'a>(rows: &'a [u16; 16], masks: &'a [u32; 16], v: u16) -> Reduced
+    ensures { λ r. ⌜ Reduces (now (rows .entry)) (now (masks .entry)) v r ⌝ }
 {
     let mut rest = v;
     let mut mask = 0;
     while rest != 0 {
         let at = u16::leading_zeros(rest) as usize;
-        let less = rest ^ scan.rows[at];
+        let less = rest ^ rows[at];
         if rest <= less {
             return Reduced { rest, mask };
         }
         rest = less;
-        mask = mask ^ scan.masks[at];
+        mask = mask ^ masks[at];
     }
     Reduced { rest, mask }
 }

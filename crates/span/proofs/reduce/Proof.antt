@@ -11,54 +11,53 @@ use lib.Bits.{bitXor, xor-self, xor-zero-r}
 use lib.Count.{leadingZeros}
 use lib.ListN.{getD}
 use Rattle.bits.proofs.XorLaws.{xor-assoc}
-use Rattle.span.specs.Held.{Made, row, Holds, Reduces}
-use Rattle.span.specs.declared.Scan.{Scan}
+use Rattle.span.specs.Held.{Made, Echelon, Reduces}
 use Rattle.span.proofs.HeldLaws.{made-zero, made-xor, row-narrow}
 use Rattle.span.proofs.LeadingLaws.{leading-lt, leading-falls}
 use Rattle.span.proofs.reduce.Statement.{statement}
 use Rattle.span.proofs.reduce.Tie as tie
 
-record Reducing (scan : Scan) (v rest mask : ℕ) : Type 0 where
+record Reducing (rows masks : List ℕ) (v rest mask : ℕ) : Type 0 where
   narrow : rest < 2 ^ 16
-  made : (vs : List ℕ) → Holds scan vs → Made vs mask (bitXor v rest)
+  made : (vs : List ℕ) → Echelon rows masks vs → Made vs mask (bitXor v rest)
 
-start : {scan : Scan} {v : ℕ} → v < 2 ^ 16 → Reducing scan v v 0
+start : {rows masks : List ℕ} {v : ℕ} → v < 2 ^ 16 → Reducing rows masks v v 0
 start {v = v} fits = record { narrow = fits; made = λ vs h. rw (xor-self v) (made-zero vs) }
 
-module _ {scan : Scan} {v rest mask : ℕ} (i : Reducing scan v rest mask) where
+module _ {rows masks : List ℕ} {v rest mask : ℕ} (i : Reducing rows masks v rest mask) where
   abbrev z : ℕ
   z = leadingZeros 16 rest
 
-  more : bitXor rest (row scan z) < rest → Reducing scan v (bitXor rest (row scan z)) (bitXor mask (getD (scan .masks) z 0))
+  more : bitXor rest (getD rows z 0) < rest → Reducing rows masks v (bitXor rest (getD rows z 0)) (bitXor mask (getD masks z 0))
   more less = record {
     narrow = omega (arith, i .narrow);
-    made = λ vs h. rw (xor-assoc v rest (row scan z)) at (made-xor (i .made vs h) (h .sound z there));
+    made = λ vs h. rw (xor-assoc v rest (getD rows z 0)) at (made-xor (i .made vs h) (h .sound z there));
   }
     where
-      there : row scan z ≢ 0
+      there : getD rows z 0 ≢ 0
       there e = omega (arith, ap (bitXor rest) e, xor-zero-r rest)
 
-  none : rest ≤ bitXor rest (row scan z) → Reduces scan v (record { rest = rest; mask = mask })
+  none : rest ≤ bitXor rest (getD rows z 0) → Reduces rows masks v (record { rest = rest; mask = mask })
   none more = record {
     narrow = i .narrow;
     made = i .made;
-    stuck = λ vs h n. elim (ℕ-discrete (row scan z) 0) [
+    stuck = λ vs h n. elim (ℕ-discrete (getD rows z 0) 0) [
       | yes e ↦ e
-      | no there ↦ absurd (omega (arith, leading-falls 16 rest (row scan z) (i .narrow) (row-narrow h z) n (h .leading z there)))
+      | no there ↦ absurd (omega (arith, leading-falls 16 rest (getD rows z 0) (i .narrow) (row-narrow h z) n (h .leading z there)))
     ];
   }
 
-  done : rest ≡ 0 → Reduces scan v (record { rest = rest; mask = mask })
+  done : rest ≡ 0 → Reduces rows masks v (record { rest = rest; mask = mask })
   done e = record { narrow = i .narrow; made = i .made; stuck = λ vs h n. absurd (n e) }
 
   index : rest ≢ 0 → z < 16
   index = leading-lt 16 rest (i .narrow)
 
 abbrev Inv-loop : tie.InvT-loop
-Inv-loop v scan rest₀ mask₀ rest mask = Reducing scan v rest mask
+Inv-loop rows masks v rest₀ mask₀ rest mask = Reducing rows masks v rest mask
 
 abbrev μ-loop : tie.MeasureT-loop
-μ-loop v scan rest₀ mask₀ rest mask = rest
+μ-loop rows masks v rest₀ mask₀ rest mask = rest
 
 loop-holds : tie.Need-loop-holds Inv-loop μ-loop
 loop-holds c = start (c .fits .v .fits)

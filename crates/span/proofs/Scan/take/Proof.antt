@@ -2,28 +2,41 @@
 use Prim.Native.Nat.{ℕ, _+_, _^_, _≤_, _<_}
 use mathlib.Core.Path.{_≡_, refl, ap, _∙_}
 use mathlib.Core.Bool.{false, true}
+use mathlib.Core.List.{List}
 use mathlib.Core.Logic.{_≢_}
 use native.Mathlib.Omega.{arith}
 use borrow.Author.Needs.{needs}
 use lib.Bits.{bitXor, xor-zero-r}
 use lib.Count.{leadingZeros}
 use lib.ListN.{set}
-use Rattle.span.specs.Held.{Takes, Reduces}
+use Rattle.span.specs.Held.{Made, Reduces}
+use Rattle.span.specs.Take.{Takes}
 use Rattle.span.specs.declared.Scan.{Scan}
 use Rattle.span.specs.declared.Reduced.{Reduced}
-use Rattle.span.proofs.HeldLaws.{next-old, next-new}
+use Rattle.span.proofs.HeldLaws.{made-sum, echelon-old, mask-old, echelon-new, mask-new, kept-rest}
 use Rattle.span.proofs.LeadingLaws.{leading-lt}
+use Rattle.span.proofs.SnocLaws.{Kept-snoc}
+use Rattle.span.proofs.SumLaws.{length-snoc}
 use Rattle.span.proofs.Scan.take.Statement.{statement}
 use Rattle.span.proofs.Scan.take.Tie as tie
+
+false≢true : {A : Type 0} → false ≡ true → A
+false≢true e = absurd (let z : _≡_ {A = ℕ} 0 1 = cc in omega arith)
 
 takes-full : {scan : Scan} {v : ℕ} → 32 ≤ scan .count → Takes scan v (record { scan = scan; kept = false; mask = 0 })
 takes-full full = record { next = λ vs h l. absurd (omega (arith, h .counted)); full = λ _. refl }
 
-module _ {scan : Scan} {v : ℕ} {r : Reduced} (fits : v < 2 ^ 16) (room : scan .count < 32) (reduced : Reduces scan v r) where
+module _ {scan : Scan} {v : ℕ} {r : Reduced} (fits : v < 2 ^ 16) (room : scan .count < 32) (reduced : Reduces (scan .rows) (scan .masks) v r) where
   takes-old : r .rest ≡ 0
       → Takes scan v (record { scan = record { rows = scan .rows; masks = scan .masks; count = scan .count + 1 }; kept = false; mask = r .mask })
   takes-old e = record {
-    next = λ vs h l. next-old fits h (rw (ap (bitXor v) e ∙ xor-zero-r v) at (reduced .made vs h));
+    next = λ vs h l.
+        let made : Made vs (r .mask) v = rw (ap (bitXor v) e ∙ xor-zero-r v) at (reduced .made vs (h .echelon)) in
+        record {
+          holds = record { counted = omega (arith, h .counted, length-snoc vs v); echelon = echelon-old fits (h .echelon) made };
+          keeps = (false≢true, λ k. absurd (Kept-snoc vs v .0 k (made-sum made)));
+          masked = mask-old made;
+        };
     full = λ full. absurd (omega arith);
   }
 
@@ -38,7 +51,18 @@ module _ {scan : Scan} {v : ℕ} {r : Reduced} (fits : v < 2 ^ 16) (room : scan 
         mask = own;
       })
   takes-new left own-is = record {
-    next = λ vs h l. next-new v fits (reduced .narrow) h (reduced .made vs h) left (reduced .stuck vs h left) own-is;
+    next = λ vs h l.
+        let made = reduced .made vs (h .echelon) in
+        let stuck = reduced .stuck vs (h .echelon) left in
+        let position = own-is ∙ ap (λ (n : ℕ). 2 ^ n) (h .counted) in
+        record {
+          holds = record {
+            counted = omega (arith, h .counted, length-snoc vs v);
+            echelon = echelon-new v fits (reduced .narrow) (h .echelon) made left stuck position;
+          };
+          keeps = (λ _. kept-rest v fits (reduced .narrow) (h .echelon) made left stuck position, λ _. refl);
+          masked = mask-new v fits (reduced .narrow) (h .echelon) made left stuck position;
+        };
     full = λ full. absurd (omega arith);
   }
 
@@ -51,52 +75,55 @@ returns c = takes-full (c .if1 .taken)
 reduce-requires : tie.Need-reduce-requires
 reduce-requires c κs = search needs
 
-add-scan : tie.Need-add-scan
-add-scan c = search needs
+add-self : tie.Need-add-self
+add-self c = search needs
 
 returns-2 : tie.Need-returns-2
-returns-2 c = takes-old (c .before .before .before .fits .v .fits) (c .before .before .if1 .left) (c .before .reduce .ensures) (c .if2 .taken)
+returns-2 c =
+    let start = c .before .before .before .before .before .before in
+    takes-old (start .fits .v .fits) (c .before .before .before .before .before .if1 .left) (c .before .reduce .ensures) (c .if2 .taken)
 
 two-to-requires : tie.Need-two-to-requires
 two-to-requires c κs = search needs
 
 place : (c : tie.After-two-to) → leadingZeros 16 (c .before .before .reduce .result .rest) < 16
 place c =
-    index (c .before .before .before .before .fits .v .fits) (c .before .before .before .if1 .left) (c .before .before .reduce .ensures)
-    (c .before .if2 .left)
+    let start = c .before .before .before .before .before .before .before in
+    index (start .fits .v .fits) (c .before .before .before .before .before .before .if1 .left) (c .before .before .reduce .ensures) (c .before .if2 .left)
 
 cast-z : tie.Need-cast-z
 cast-z c = omega (arith, place c)
 
-mul-scan : tie.Need-mul-scan
-mul-scan c = omega (arith, place c)
+mul-self : tie.Need-mul-self
+mul-self c = omega (arith, place c)
 
-element-write-scan : tie.Need-element-write-scan
-element-write-scan c = place c
+element-write-self : tie.Need-element-write-self
+element-write-self c = place c
 
-mul-scan-2 : tie.Need-mul-scan-2
-mul-scan-2 c = omega (arith, place c)
+mul-self-2 : tie.Need-mul-self-2
+mul-self-2 c = omega (arith, place c)
 
-element-write-scan-2 : tie.Need-element-write-scan-2
-element-write-scan-2 c = place c
+element-write-self-2 : tie.Need-element-write-self-2
+element-write-self-2 c = place c
 
 returns-3 : tie.Need-returns-3
 returns-3 c =
-    takes-new (c .before .before .before .before .fits .v .fits) (c .before .before .before .if1 .left)
-    (c .before .before .reduce .ensures) (c .before .if2 .left) (c .two-to .ensures)
+    let start = c .before .before .before .before .before .before .before in
+    takes-new (start .fits .v .fits) (c .before .before .before .before .before .before .if1 .left) (c .before .before .reduce .ensures)
+    (c .before .if2 .left) (c .two-to .ensures)
 
 pub take-spec : {M : Type 1} → statement M
 take-spec =
     tie.close
     (tie.spec
     returns
+    add-self
     reduce-requires
-    add-scan
     returns-2
     two-to-requires
     cast-z
-    mul-scan
-    element-write-scan
-    mul-scan-2
-    element-write-scan-2
+    mul-self
+    element-write-self
+    mul-self-2
+    element-write-self-2
     returns-3)

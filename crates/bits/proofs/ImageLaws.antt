@@ -1,6 +1,7 @@
 -- The image under columns is a linear map, and every linear map of n bits is the image under its columns.
 --   below-one, below-append    lists of numbers below a bound
 --   image-nil, image-cons      the definition, as equations
+--   chosen-xor, chosen-lt, linear-chosen    choosing by a bit passes through exclusive or, keeps a bound, and passes through a linear map
 --   image-zero          the image of 0
 --   image-xor           the image is linear
 --   image-unit          the image of 2^j is column j
@@ -13,15 +14,17 @@
 --   linear-map          a linear map takes sums of columns to sums of their values
 --   image-image         the columns of B after A are the images of A's columns
 --   columns-length, columns-at    there are n columns, and column j is the value at 2^j
+--   columns-below       values of m bits give columns of m bits
+--   columns-image       the columns of an image are the columns
 --   linear-image        a linear map on the numbers of n bits is the image under its columns
 --   linear-agree        two linear maps that agree at 2^0 .. 2^(n-1) agree on all numbers of n bits
-use Prim.Native.Nat.{ℕ, zero, suc, _+_, _*_, _/_, _%_, _^_, _<_, _≤_}
-use mathlib.Core.Path.{_≡_, refl, sym, ap, ap₂, subst, _∙_}
+use Prim.Native.Nat.{ℕ, zero, suc, _+_, _*_, _/_, _%_, _^_, _<_}
+use mathlib.Core.Path.{_≡_, refl, sym, ap, ap₂, _∙_}
 use mathlib.Core.List.{List, [], _∷_, _++_, map}
 use mathlib.Core.Logic.{_⊎_, inl, inr, ⊎-elim}
 use native.Mathlib.Omega.{arith}
 use native.Mathlib.Nat.{pow-suc, div-eq-of-lt}
-use lib.Bits.{bitXor, xor-zero-r, xor-lt, xor-zero-l, xor-self}
+use lib.Bits.{bitXor, xor-zero-r, xor-lt, xor-self}
 use lib.ListN.{length, getD}
 use lib.Arith.{lt-one}
 use lib.Pow.{pow-pos, shr-shr, field, mod-mod-pow}
@@ -53,8 +56,7 @@ unfolding image
 image-zero [] = refl
 image-zero (c ∷ cs) = image-zero cs
 
--- bits that differ choose what differs
-chosen-xor : (a b c : ℕ) → chosen ((a + b) % 2) c ≡ bitXor (chosen (a % 2) c) (chosen (b % 2) c)
+pub chosen-xor : (a b c : ℕ) → chosen ((a + b) % 2) c ≡ bitXor (chosen (a % 2) c) (chosen (b % 2) c)
 chosen-xor a b c = go (even-or-odd a) (even-or-odd b)
   where
     go : (a % 2 ≡ 0) ⊎ (a % 2 ≡ 1) → (b % 2 ≡ 0) ⊎ (b % 2 ≡ 1) → chosen ((a + b) % 2) c ≡ bitXor (chosen (a % 2) c) (chosen (b % 2) c)
@@ -77,7 +79,7 @@ image-unit [] j = refl
 image-unit (c ∷ cs) zero = ap (bitXor c) (image-zero cs) ∙ xor-zero-r c
 image-unit (c ∷ cs) (suc j) = rw (unit-half j, unit-low j) (image-unit cs j)
 
-chosen-lt : (b c m : ℕ) → c < 2 ^ m → chosen b c < 2 ^ m
+pub chosen-lt : (b c m : ℕ) → c < 2 ^ m → chosen b c < 2 ^ m
 chosen-lt zero c m h = pow-pos m
 chosen-lt (suc b) c m h = h
 
@@ -115,7 +117,7 @@ image-mod (c ∷ cs) x =
 pub linear-zero : (f : ℕ → ℕ) → Linear f → f 0 ≡ 0
 linear-zero f l = l 0 0 ∙ xor-self (f 0)
 
-linear-chosen : (f : ℕ → ℕ) → Linear f → (b c : ℕ) → f (chosen b c) ≡ chosen b (f c)
+pub linear-chosen : (f : ℕ → ℕ) → Linear f → (b c : ℕ) → f (chosen b c) ≡ chosen b (f c)
 linear-chosen f l zero c = linear-zero f l
 linear-chosen f l (suc b) c = refl
 
@@ -138,6 +140,14 @@ unfolding columns
 columns-at zero f j h = absurd (omega arith)
 columns-at (suc n) f zero h = refl
 columns-at (suc n) f (suc j) h = columns-at n (λ x. f (2 * x)) j (omega arith) ∙ ap f (omega (arith, pow-suc 2 j))
+
+pub columns-below : (n b : ℕ) (f : ℕ → ℕ) → ((j : ℕ) → j < n → f (2 ^ j) < b) → AllBelow b (columns n f)
+columns-below n b f below j h = let k : j < n = omega (arith, columns-length n f) in rw (columns-at n f j k) (below j k)
+
+pub columns-image : (cs : List ℕ) → columns (length cs) (image cs) ≡ cs
+columns-image cs =
+    ext-getD 0 (columns (length cs) (image cs)) cs (columns-length (length cs) (image cs))
+    (λ j h. columns-at (length cs) (image cs) j (rw columns-length at h) ∙ image-unit cs j)
 
 linear-double : (f : ℕ → ℕ) → Linear f → Linear (λ x. f (2 * x))
 linear-double f l x y = ap f (xor-double x y) ∙ l (2 * x) (2 * y)

@@ -1,15 +1,18 @@
 -- Odd or even, and single bits.
---   parity-lt, parity-zero, parity-step    parity is 0 or 1, goes bit by bit, and is 0 of 0
+--   parity-lt, parity-zero, parity-step    parity is 0 or 1, is 0 of 0, and goes bit by bit
 --   parity-xor          the parity of an exclusive or
 --   dot-lt, dot-comm, dot-zero             dot is 0 or 1, the same either way round, and 0 with 0
---   dot-xor, xor-dot    dot passes through exclusive or, on either side
+--   dot-xor-right, dot-xor-left    dot passes through exclusive or, on either side
 --   dot-step            dot goes bit by bit
 --   bit-suc             a bit of a number is the bit below it of the half
+--   bit-xor             a bit of an exclusive or
+--   bit-same, bit-other    the bits of 2^j: bit j is 1, any other 0
 --   unit-half, unit-low    the half and the lowest bit of 2^(j+1)
 --   dot-unit            dot with 2^j is bit j
 --   by-bits             numbers of k bits with equal bits are equal
-use Prim.Native.Nat.{ℕ, zero, suc, _+_, _*_, _/_, _%_, _^_, _<_, _≤_, min}
+use Prim.Native.Nat.{ℕ, zero, suc, _+_, _/_, _%_, _^_, _<_, min}
 use mathlib.Core.Path.{_≡_, refl, sym, ap, ap₂, _∙_}
+use mathlib.Core.Logic.{_≢_}
 use native.Mathlib.Omega.{arith}
 use native.Mathlib.Nat.{add-mod, pow-suc}
 use lib.Arith.{bin-ind}
@@ -59,12 +62,12 @@ pub dot-zero : (a : ℕ) → dot a 0 ≡ 0
 unfolding dot
 dot-zero a = ap parity (and-zero-r a) ∙ parity-zero
 
-pub dot-xor : (a b c : ℕ) → dot a (bitXor b c) ≡ (dot a b + dot a c) % 2
+pub dot-xor-right : (a b c : ℕ) → dot a (bitXor b c) ≡ (dot a b + dot a c) % 2
 unfolding dot
-dot-xor a b c = ap parity (and-xor a b c) ∙ parity-xor (bitAnd a b) (bitAnd a c)
+dot-xor-right a b c = ap parity (and-xor a b c) ∙ parity-xor (bitAnd a b) (bitAnd a c)
 
-pub xor-dot : (a b c : ℕ) → dot (bitXor a b) c ≡ (dot a c + dot b c) % 2
-xor-dot a b c = dot-comm (bitXor a b) c ∙ dot-xor c a b ∙ ap₂ (λ (x y : ℕ). (x + y) % 2) (dot-comm c a) (dot-comm c b)
+pub dot-xor-left : (a b c : ℕ) → dot (bitXor a b) c ≡ (dot a c + dot b c) % 2
+dot-xor-left a b c = dot-comm (bitXor a b) c ∙ dot-xor-right c a b ∙ ap₂ (λ (x y : ℕ). (x + y) % 2) (dot-comm c a) (dot-comm c b)
 
 pub dot-step : (a b : ℕ) → dot a b ≡ (min (a % 2) (b % 2) + dot (a / 2) (b / 2)) % 2
 unfolding dot
@@ -88,6 +91,23 @@ dot-unit (suc j) a =
     dot-step a (2 ^ suc j)
     ∙ rw (unit-half j, unit-low j, dot-unit j (a / 2)) (omega arith)
     ∙ sym (bit-suc j a)
+
+pub bit-xor : (j a b : ℕ) → bit j (bitXor a b) ≡ (bit j a + bit j b) % 2
+bit-xor j a b =
+    sym (dot-unit j (bitXor a b)) ∙ dot-xor-left a b (2 ^ j) ∙ ap₂ (λ (x y : ℕ). (x + y) % 2) (dot-unit j a) (dot-unit j b)
+
+bit-zero : (j : ℕ) → bit j 0 ≡ 0
+bit-zero j = sym (dot-unit j 0) ∙ dot-comm 0 (2 ^ j) ∙ dot-zero (2 ^ j)
+
+pub bit-same : (j : ℕ) → bit j (2 ^ j) ≡ 1
+bit-same zero = refl
+bit-same (suc j) = bit-suc j (2 ^ suc j) ∙ ap (bit j) (unit-half j) ∙ bit-same j
+
+pub bit-other : (l j : ℕ) → l ≢ j → bit l (2 ^ j) ≡ 0
+bit-other zero zero n = absurd (n refl)
+bit-other zero (suc j) n = omega (arith, unit-low j)
+bit-other (suc l) zero n = bit-suc l 1 ∙ bit-zero l
+bit-other (suc l) (suc j) n = bit-suc l (2 ^ suc j) ∙ ap (bit l) (unit-half j) ∙ bit-other l j (λ e. n (ap suc e))
 
 pub by-bits : (k : ℕ) (a b : ℕ) → a < 2 ^ k → b < 2 ^ k → ((j : ℕ) → j < k → bit j a ≡ bit j b) → a ≡ b
 by-bits zero a b ha hb h = omega arith

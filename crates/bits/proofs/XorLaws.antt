@@ -12,13 +12,13 @@
 --   and-xor             AND distributes over exclusive or
 --   xor-double          doubling passes through exclusive or
 --   xor-split           a number is its lowest bit and twice its half
-use Prim.Native.Nat.{ℕ, zero, suc, _+_, _*_, _/_, _%_, _^_, _<_, _≤_, min}
+use Prim.Native.Nat.{ℕ, zero, suc, _+_, _*_, _/_, _%_, _<_, min}
 use mathlib.Core.Path.{_≡_, refl, sym, ap, ap₂, _∙_}
 use mathlib.Core.Logic.{_⊎_, inl, inr}
 use native.Mathlib.Omega.{arith}
 use native.Mathlib.Nat.{add-mod, add-assoc}
 use lib.Arith.{bin-ind}
-use lib.Bits.{bitXor, bitAnd, xor-shr, and-shr, xor-add-and, xor-comm, xor-self, xor-zero-r, and-step, xor-disjoint, and-zero-r, and-comm}
+use lib.Bits.{bitXor, bitAnd, xor-shr, and-shr, xor-add-and, xor-comm, xor-self, xor-zero-r, and-step}
 
 pub by-halves : {a b : ℕ} → a / 2 ≡ b / 2 → a % 2 ≡ b % 2 → a ≡ b
 by-halves h l = omega arith

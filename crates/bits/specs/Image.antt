@@ -4,7 +4,7 @@
 --   AllBelow b C     each column of C is below b
 --   Linear f         f of an exclusive or is the exclusive or of the two values
 --   columns n f      f 2^0, f 2^1, .., f 2^(n-1): the columns of a map of n bits
-use Prim.Native.Nat.{ℕ, zero, suc, _+_, _*_, _/_, _%_, _<_}
+use Prim.Native.Nat.{ℕ, zero, suc, _*_, _/_, _%_, _<_}
 use mathlib.Core.Path.{_≡_}
 use mathlib.Core.List.{List, [], _∷_}
 use lib.ListN.{length, getD}

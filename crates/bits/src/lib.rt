@@ -35,7 +35,6 @@ pub fn image(columns: &[u16], x: u32) -> u16
     sum
 }
 
-// 2^k.
 pub fn two_to(k: u32) -> u32
     requires { ⌜ Exponent k ⌝ }
     ensures { λ r. ⌜ r ≡ 2 ^ k ⌝ }

@@ -1,12 +1,14 @@
 -- "Of a tool's numbers the lowest that applies is given" (01), said once for every tool.
--- A tool's table lists its reasons to refuse in the order in which they come first.
---   Reason         a refusal, the statement that makes it apply, in 01's words, and a decision of that statement
---   lowest t       the refusal of the first reason of t that applies; none where none does
---   Each Q t       every reason of t has Q
---   Some Q t       some reason of t has Q
---   Ascending t    the numbers of t go up
---   LowestThatApplies t x    x applies, by t, and nothing that applies has a lower number
-use Prim.Native.Nat.{ℕ, _<_, _≤_}
+-- A tool's table is a list of reasons to refuse, and of those that apply the first of the list is given.
+--   Reason                   a refusal, the statement that makes it apply, in 01's words, and a decision of that statement
+--   orElse d r o             the refusal r if d says that it applies, else o
+--   lowest t                 the refusal of the first reason of t that applies; none where none does
+--   EachReason Q t           every reason of t has Q
+--   AnyReason Q t            some reason of t has Q
+--   FirstThatApplies t x     x is the refusal of a reason of t that applies, and none before that one does
+--   Ascending t              the numbers of t go up
+--   LowestThatApplies t x    x is the refusal of a reason of t that applies, and none that applies has a lower number
+use Prim.Native.Nat.{_<_, _≤_}
 use mathlib.Core.Path.{_≡_}
 use mathlib.Core.List.{List, [], _∷_}
 use mathlib.Core.Logic.{_⊎_}
@@ -27,18 +29,22 @@ unfoldable pub lowest : List Reason → Option Refusal
 lowest [] = none
 lowest (r ∷ rs) = orElse (r .decided) (r .refusal) (lowest rs)
 
-abbrev pub Each : (Reason → Type 0) → List Reason → Type 0
-Each Q [] = Unit
-Each Q (r ∷ rs) = Q r × Each Q rs
+abbrev pub EachReason : (Reason → Type 0) → List Reason → Type 0
+EachReason Q [] = Unit
+EachReason Q (r ∷ rs) = Q r × EachReason Q rs
 
-abbrev pub Some : (Reason → Type 0) → List Reason → Type 0
-Some Q [] = ⊥
-Some Q (r ∷ rs) = Q r ⊎ Some Q rs
+abbrev pub AnyReason : (Reason → Type 0) → List Reason → Type 0
+AnyReason Q [] = ⊥
+AnyReason Q (r ∷ rs) = Q r ⊎ AnyReason Q rs
+
+abbrev pub FirstThatApplies : List Reason → Refusal → Type 0
+FirstThatApplies [] x = ⊥
+FirstThatApplies (r ∷ rs) x = (r .applies × (r .refusal ≡ x)) ⊎ ((¬ r .applies) × FirstThatApplies rs x)
 
 abbrev pub Ascending : List Reason → Type 0
 Ascending [] = Unit
-Ascending (r ∷ rs) = Each (λ s. numberOf (r .refusal) < numberOf (s .refusal)) rs × Ascending rs
+Ascending (r ∷ rs) = EachReason (λ s. numberOf (r .refusal) < numberOf (s .refusal)) rs × Ascending rs
 
 pub record LowestThatApplies (t : List Reason) (x : Refusal) : Type 0 where
-  pub applies : Some (λ r. (r .refusal ≡ x) × r .applies) t
-  pub nothing-lower : Each (λ r. r .applies → numberOf x ≤ numberOf (r .refusal)) t
+  pub applies : AnyReason (λ r. r .applies × (r .refusal ≡ x)) t
+  pub nothing-lower : EachReason (λ r. r .applies → numberOf x ≤ numberOf (r .refusal)) t

@@ -1,11 +1,10 @@
 -- What each refusal says, as 01's table 'When a tool says no' has it.
 --   numberOf r       its number
---   portsOf r        the ports that it names: two for 11 and 13, lowest first, else none
+--   valuesOf r       the numbers that it carries: the two ports of 11 and 13, else none
 --   given o          the number of an answer that may be a refusal: 0 where it is none
 use Prim.Native.Nat.{ℕ}
 use mathlib.Core.List.{List, [], _∷_}
 use mathlib.Core.Option.{Option, none, some}
-use Rattle.kinds.specs.declared.Port.{Port}
 use Rattle.kinds.specs.declared.Refusal.{Refusal}
 use Rattle.kinds.specs.declared.Refusal.the-variants.{Sizes, Length, TooLarge, Dependent, Layout, WriteWiring, ReadWiring, SharedCell, Differs, State, WriteClash, Overwrite, ReadClash, EmptyRead, Card}
 
@@ -26,22 +25,22 @@ numberOf (ReadClash p q) = 13
 numberOf EmptyRead = 14
 numberOf Card = 15
 
-abbrev pub portsOf : Refusal → List Port
-portsOf Sizes = []
-portsOf Length = []
-portsOf TooLarge = []
-portsOf Dependent = []
-portsOf Layout = []
-portsOf WriteWiring = []
-portsOf ReadWiring = []
-portsOf SharedCell = []
-portsOf Differs = []
-portsOf State = []
-portsOf (WriteClash p q) = p ∷ q ∷ []
-portsOf Overwrite = []
-portsOf (ReadClash p q) = p ∷ q ∷ []
-portsOf EmptyRead = []
-portsOf Card = []
+abbrev pub valuesOf : Refusal → List ℕ
+valuesOf Sizes = []
+valuesOf Length = []
+valuesOf TooLarge = []
+valuesOf Dependent = []
+valuesOf Layout = []
+valuesOf WriteWiring = []
+valuesOf ReadWiring = []
+valuesOf SharedCell = []
+valuesOf Differs = []
+valuesOf State = []
+valuesOf (WriteClash p q) = p .0 ∷ q .0 ∷ []
+valuesOf Overwrite = []
+valuesOf (ReadClash p q) = p .0 ∷ q .0 ∷ []
+valuesOf EmptyRead = []
+valuesOf Card = []
 
 abbrev pub given : Option Refusal → ℕ
 given none = 0

@@ -2,7 +2,7 @@
 ghost use mathlib.Core.Path.{_≡_};
 ghost use Rattle.kinds.specs.Refusal.{numberOf};
 
-// "A cycle number may never stand where a port number belongs" (01): four kinds, and no way from one to another.
+// "A cycle number may never stand where a port number belongs" (01): the compiler refuses one for another.
 pub struct Tick(pub u32);
 
 pub struct Port(pub u32);

@@ -1,8 +1,10 @@
 -- Counting by maps. One step serves all: an injective map into b that misses some y < b is into b - 1 once its value b - 1 is redirected to y.
 --   pigeonhole            no injective map from a into b unless a ≤ b
 --   injective-onto        an injective map of the numbers below N is onto
+--   preimages             a map onto has a preimage of each number, to be computed
 --   onto-injective        a map onto the numbers below N is injective
---   injective-bijection   an injective map of the numbers below N is a bijection
+--   injective-bijection, onto-bijection    an injective map of the numbers below N is a bijection, and so is one onto them
+--   bijection-inverse     a bijection has an inverse, to be computed
 --   pow-injective-le      powers of two are in the order of their exponents
 --   injective-width       no injective map from a bits into b bits unless a ≤ b
 --   onto-width            no map from s bits onto k bits unless k ≤ s
@@ -56,7 +58,7 @@ injective-onto {f} {N} into injective y h = elim (someBelow (λ i. ℕ-discrete 
   | no none ↦ let g = redirected into injective h (λ i l e. none (i, l, e)) in absurd (omega (arith, pigeonhole (g .1) (g .2)))
 ]
 
-preimages : {f : ℕ → ℕ} {a b : ℕ} → Onto f a b → (g : ℕ → ℕ) × Into g b a × Injective g b × ((y : ℕ) → y < b → f (g y) ≡ y)
+pub preimages : {f : ℕ → ℕ} {a b : ℕ} → Onto f a b → (g : ℕ → ℕ) × Into g b a × Injective g b × ((y : ℕ) → y < b → f (g y) ≡ y)
 preimages {f} {a} {b} onto = (
   λ y. chosen y .0,
   λ y h. chosen y .1 h .0,
@@ -76,6 +78,15 @@ onto-injective onto i j h k e =
 
 pub injective-bijection : {f : ℕ → ℕ} {N : ℕ} → Into f N N → Injective f N → Bijection f N
 injective-bijection into injective = record { into = into; injective = injective; onto = injective-onto into injective }
+
+pub onto-bijection : {f : ℕ → ℕ} {N : ℕ} → Into f N N → Onto f N N → Bijection f N
+onto-bijection into onto = record { into = into; injective = onto-injective onto; onto = onto }
+
+pub bijection-inverse : {f : ℕ → ℕ} {N : ℕ} → Bijection f N
+    → (g : ℕ → ℕ) × Into g N N × ((y : ℕ) → y < N → f (g y) ≡ y) × ((x : ℕ) → x < N → g (f x) ≡ x)
+bijection-inverse {f} b =
+    let g = preimages (b .onto) in
+    (g .0, g .1, g .3, λ x h. b .injective (g .0 (f x)) x (g .1 (f x) (b .into x h)) h (g .3 (f x) (b .into x h)))
 
 pub pow-injective-le : {a b : ℕ} → 2 ^ a ≤ 2 ^ b → a ≤ b
 pow-injective-le {a} {b} h = elim (decLe a b) [ yes l ↦ l | no nl ↦ absurd (omega (arith, pow-lt {i = b} {j = a} (omega arith))) ]

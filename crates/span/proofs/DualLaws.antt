@@ -1,8 +1,9 @@
 -- Independent rows have dual vectors, by adding a row at the front; with them a map by rows can be undone.
 --   independent-tail    without its first member a list stays independent
 --   independent-head    the first member of an independent list is no sum of the others
---   dual-image          the rows make of a sum of duals its selection
---   image-dual          the duals make of a sum of rows its selection
+--   rows-of-duals          the rows make of a sum of duals its selection
+--   duals-of-rows          the duals make of a sum of rows its selection
+--   dual-same, dual-other    row l and dual j have an odd number of ones in common exactly when l is j
 --   vanish-sum          what vanishes on the rows vanishes on their sums
 --   duals               independent rows have dual vectors
 --   functional-sum      what vanishes wherever all rows do is a sum of the rows
@@ -14,16 +15,16 @@ use native.Mathlib.Decide.{ℕ-discrete}
 use native.Mathlib.Omega.{arith}
 use native.Mathlib.Nat.{pow-suc}
 use lib.Bits.{bitXor, xor-self, xor-lt, xor-add-and, and-mask}
-use lib.ListN.{length}
+use lib.ListN.{length, getD}
 use lib.Pow.{pow-pos, pow-lt}
 use Rattle.bits.specs.Image.{chosen, image, AllBelow, columns}
-use Rattle.bits.specs.Parity.{dot}
-use Rattle.bits.proofs.ParityLaws.{dot-lt, dot-comm, dot-zero, dot-xor}
+use Rattle.bits.specs.Parity.{bit, dot}
+use Rattle.bits.proofs.ParityLaws.{bit-same, bit-other, dot-lt, dot-comm, dot-zero, dot-xor-right}
 use Rattle.bits.proofs.ImageLaws.{image-cons, image-xor, image-unit, image-lt, linear-agree, columns-length, columns-at}
 use Rattle.span.specs.Search.{someBelow}
 use Rattle.span.specs.Sums.{SumOf, Independent}
 use Rattle.span.specs.Rows.{dots, Duals}
-use Rattle.span.proofs.RowLaws.{dots-nil, dots-cons, dots-lt, dots-xor, adjoint, dot-same}
+use Rattle.span.proofs.RowLaws.{dots-bit, dots-nil, dots-cons, dots-lt, dots-xor, dot-image, dot-same}
 
 image-low : (r : ℕ) (rs : List ℕ) (b m : ℕ) → b < 2 → image (r ∷ rs) (b + 2 * m) ≡ bitXor (chosen b r) (image rs m)
 image-low r rs b m h =
@@ -43,8 +44,8 @@ independent-head r rs h s =
           (image-low r rs 1 (s .selected) (omega arith) ∙ rw (s .sum) (xor-self r)),
     )
 
-pub dual-image : (k : ℕ) (rs : List ℕ) (d : Duals k rs) (s : ℕ) → s < 2 ^ length rs → dots rs (image (d .vectors) s) ≡ s
-dual-image k rs d =
+pub rows-of-duals : (k : ℕ) (rs : List ℕ) (d : Duals k rs) (s : ℕ) → s < 2 ^ length rs → dots rs (image (d .vectors) s) ≡ s
+rows-of-duals k rs d =
     linear-agree (length rs) (λ s. dots rs (image (d .vectors) s)) (λ s. s)
     (λ x y. simp (image-xor, dots-xor)) (λ x y. refl)
     (λ j l. ap (dots rs) (image-unit (d .vectors) j) ∙ d .dual j l)
@@ -52,18 +53,29 @@ dual-image k rs d =
 dual-dots-lt : {k : ℕ} {rs : List ℕ} (d : Duals k rs) (x : ℕ) → dots (d .vectors) x < 2 ^ length rs
 dual-dots-lt d x = rw (d .count) at (dots-lt (d .vectors) x)
 
-pub image-dual : (k : ℕ) (rs : List ℕ) (d : Duals k rs) (s : ℕ) → s < 2 ^ length rs → dots (d .vectors) (image rs s) ≡ s
-image-dual k rs d s l =
+pub duals-of-rows : (k : ℕ) (rs : List ℕ) (d : Duals k rs) (s : ℕ) → s < 2 ^ length rs → dots (d .vectors) (image rs s) ≡ s
+duals-of-rows k rs d s l =
     dot-same (length rs) (dots (d .vectors) (image rs s)) s (dual-dots-lt d (image rs s)) l
     (λ t h.
     dot-comm (dots (d .vectors) (image rs s)) t
-    ∙ sym (adjoint (d .vectors) t (image rs s))
+    ∙ sym (dot-image (d .vectors) t (image rs s))
     ∙ dot-comm (image (d .vectors) t) (image rs s)
-    ∙ adjoint rs s (image (d .vectors) t)
-    ∙ ap (dot s) (dual-image k rs d t h))
+    ∙ dot-image rs s (image (d .vectors) t)
+    ∙ ap (dot s) (rows-of-duals k rs d t h))
+
+dual-dot : (k : ℕ) (rs : List ℕ) (d : Duals k rs) (l j : ℕ) → l < length rs → j < length rs
+    → dot (getD rs l 0) (getD (d .vectors) j 0) ≡ bit l (2 ^ j)
+dual-dot k rs d l j h i = sym (dots-bit rs (getD (d .vectors) j 0) l h) ∙ ap (bit l) (d .dual j i)
+
+pub dual-same : (k : ℕ) (rs : List ℕ) (d : Duals k rs) (l : ℕ) → l < length rs → dot (getD rs l 0) (getD (d .vectors) l 0) ≡ 1
+dual-same k rs d l h = dual-dot k rs d l l h h ∙ bit-same l
+
+pub dual-other : (k : ℕ) (rs : List ℕ) (d : Duals k rs) (l j : ℕ) → l < length rs → j < length rs → l ≢ j
+    → dot (getD rs l 0) (getD (d .vectors) j 0) ≡ 0
+dual-other k rs d l j h i n = dual-dot k rs d l j h i ∙ bit-other l j n
 
 pub vanish-sum : (rs : List ℕ) {v : ℕ} (x : ℕ) → dots rs x ≡ 0 → SumOf rs v → dot v x ≡ 0
-vanish-sum rs x e s = rw (← s .sum, adjoint, e) (dot-zero (s .selected))
+vanish-sum rs x e s = rw (← s .sum, dot-image, e) (dot-zero (s .selected))
 
 -- x ⊕ the sum of the duals that x selects vanishes on the rows, so f has the same dot with both
 dual-sum : {k : ℕ} {rs : List ℕ} → AllBelow (2 ^ k) rs → Duals k rs → (f : ℕ) → f < 2 ^ k
@@ -80,13 +92,13 @@ dual-sum {k} {rs} below d f h vanishes = record {
     same : (x : ℕ) → x < 2 ^ k → dot (image rs mask) x ≡ dot f x
     same x l =
         let y : ℕ = image (d .vectors) (dots rs x) in
-        let none : dots rs (bitXor x y) ≡ 0 = dots-xor rs x y ∙ rw (dual-image k rs d (dots rs x) (dots-lt rs x)) (xor-self (dots rs x)) in
+        let none : dots rs (bitXor x y) ≡ 0 = dots-xor rs x y ∙ rw (rows-of-duals k rs d (dots rs x) (dots-lt rs x)) (xor-self (dots rs x)) in
         let even : dot f (bitXor x y) ≡ 0 = vanishes (bitXor x y) (xor-lt k x y l (image-lt k (d .vectors) (d .below) (dots rs x))) none in
-        adjoint rs mask x
+        dot-image rs mask x
         ∙ dot-comm mask (dots rs x)
-        ∙ sym (adjoint (d .vectors) (dots rs x) f)
+        ∙ sym (dot-image (d .vectors) (dots rs x) f)
         ∙ dot-comm y f
-        ∙ omega (arith, dot-xor f x y, dot-lt f x, dot-lt f y)
+        ∙ omega (arith, dot-xor-right f x y, dot-lt f x, dot-lt f y)
 
 -- a row that is no sum of the rows is 1 somewhere where they vanish
 apart : {k : ℕ} (r : ℕ) {rs : List ℕ} → r < 2 ^ k → AllBelow (2 ^ k) rs → Duals k rs → ¬ SumOf rs r
@@ -126,7 +138,7 @@ solved {k} r {rs} d (x, x-lt, only) s = mend (ℕ-discrete (dots (r ∷ rs) y) s
     mended : dots (r ∷ rs) y ≢ s → s < 2 ^ suc (length rs) → bitXor (dots (r ∷ rs) y) 1 ≡ s
     mended differs l =
         let D : ℕ = dots (r ∷ rs) y in
-        let half : dots rs y ≡ s / 2 = dual-image k rs d (s / 2) (omega (arith, pow-suc 2 (length rs))) in
+        let half : dots rs y ≡ s / 2 = rows-of-duals k rs d (s / 2) (omega (arith, pow-suc 2 (length rs))) in
         omega (arith, dots-cons r rs y, dot-lt r y, xor-add-and D 1, and-mask D 1)
 
     mend : Dec (dots (r ∷ rs) y ≡ s) → Solved k (r ∷ rs) s

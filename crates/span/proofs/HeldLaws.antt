@@ -7,14 +7,13 @@
 --   echelon-old, mask-old  the same rows, for a number that they make up; its mask
 --   echelon-new, mask-new  the rest of a number that they don't make up is a row of its own; its mask
 --   kept-rest              such a number is kept
-use Prim.Native.Nat.{ℕ, zero, suc, _+_, _^_, _<_, _≤_}
+use Prim.Native.Nat.{ℕ, _+_, _^_, _<_}
 use mathlib.Core.Path.{_≡_, refl, sym, ap, ap₂, _∙_}
 use mathlib.Core.List.{List, [], _∷_, _++_}
 use mathlib.Core.Logic.{_≢_, _⊎_, inl, inr}
 use native.Mathlib.Decide.{ℕ-discrete, decLt}
-use native.Mathlib.Numerals.{add-one}
 use native.Mathlib.Omega.{arith}
-use lib.Bits.{bitXor, xor-self, xor-comm}
+use lib.Bits.{bitXor, xor-comm}
 use lib.Count.{leadingZeros}
 use lib.ListN.{length, getD, set, length-set, replicate, getD-replicate, List·getD-eq-default}
 use lib.Seq.{getD-set-same, getD-set-other}
@@ -22,12 +21,13 @@ use Rattle.bits.specs.Image.{image, AllBelow}
 use Rattle.bits.proofs.XorLaws.{xor-assoc, xor-cancel, xor-cancel-right, xor-zero-eq}
 use Rattle.bits.proofs.ImageLaws.{below-append, below-one, image-nil, image-zero, image-xor, image-lt, image-prefix}
 use Rattle.span.specs.Sums.{SumOf}
-use Rattle.span.specs.Scan.{members, keptAt, kept, Kept, units, mask}
+use Rattle.span.specs.Scan.{members, keptAt, kept, IsKept, units, mask}
 use Rattle.span.specs.Held.{Made, Echelon}
 use Rattle.span.proofs.SumLaws.{length-snoc, sum-image, sum-zero, sum-xor}
-use Rattle.span.proofs.ScanLaws.{kept-below, kept-prefix, kept-more, image-over, over-below, mask-sum, mask-over, mask-unique, mask-kept}
+use Rattle.span.proofs.ScanLaws.{keptAt-below, keptAt-prefix, keptAt-more}
+use Rattle.span.proofs.MaskLaws.{image-over, over-below, mask-sum, mask-over, mask-unique, mask-kept}
 use Rattle.span.proofs.RankLaws.{kept-all-below}
-use Rattle.span.proofs.SnocLaws.{next-at, Kept-snoc, kept-old, kept-new, sum-snoc}
+use Rattle.span.proofs.SnocLaws.{next-at, IsKept-snoc, kept-old, kept-new, sum-snoc}
 use Rattle.span.proofs.LeadingLaws.{leading-lt, leading-xor}
 
 pub made-zero : (vs : List ℕ) → Made vs 0 0
@@ -60,9 +60,9 @@ module _ (vs : List ℕ) (v : ℕ) where
   made-more {m} {w} a =
       let s = a .over-kept in
       let ps = keptAt vs (length vs) in
-      let low : m < 2 ^ length vs = rw (s .sum) at (over-below (length vs) ps (kept-below vs (length vs)) (s .selected)) in
+      let low : m < 2 ^ length vs = rw (s .sum) at (over-below (length vs) ps (keptAt-below vs (length vs)) (s .selected)) in
       record {
-        over-kept = kept-more more (λ p. 2 ^ p) {i = length vs} (omega (arith, length-snoc vs v)) (rw (kept-prefix vs (v ∷ []) (length vs) (omega arith)) s);
+        over-kept = keptAt-more more (λ p. 2 ^ p) {i = length vs} (omega (arith, length-snoc vs v)) (rw (keptAt-prefix vs (v ∷ []) (length vs) (omega arith)) s);
         sum = image-prefix vs (v ∷ []) m low ∙ a .sum;
       }
 
@@ -131,8 +131,8 @@ module _ {rows masks vs : List ℕ} (v : ℕ) {m rest own : ℕ} (fits : v < 2 ^
   row-other : (y : ℕ) → y ≢ z → row y ≡ getD rows y 0
   row-other y n = getD-set-other rows z y rest 0 n
 
-  pub kept-rest : Kept (vs ++ (v ∷ [])) (length vs)
-  kept-rest = Kept-snoc vs v .1 new
+  pub kept-rest : IsKept (vs ++ (v ∷ [])) (length vs)
+  kept-rest = IsKept-snoc vs v .1 new
 
   pub mask-new : own ≡ mask (vs ++ (v ∷ [])) (length vs)
   mask-new = own-is ∙ sym (mask-kept (vs ++ (v ∷ [])) (length vs) kept-rest)

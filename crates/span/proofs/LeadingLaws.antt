@@ -2,11 +2,11 @@
 --   leading-lt        a number that is not 0 has fewer than k leading zeros
 --   leading-falls     two numbers with the same leading zeros: their exclusive or is smaller
 --   leading-xor       the number with fewer leading zeros decides those of an exclusive or
-use Prim.Native.Nat.{ℕ, zero, suc, _+_, _*_, _-_, _/_, _%_, _^_, _≤_, _<_}
+use Prim.Native.Nat.{ℕ, zero, suc, _+_, _*_, _-_, _^_, _<_}
 use mathlib.Core.Path.{_≡_, sym, ap, ap₂, _∙_}
 use mathlib.Core.Logic.{_≢_}
 use native.Mathlib.Omega.{arith}
-use native.Mathlib.Nat.{pow-suc, lt-of-lt-of-le, one-mul, zero-mul, zero-add}
+use native.Mathlib.Nat.{pow-suc, lt-of-lt-of-le}
 use lib.Bits.{bitXor, xor-block, xor-lt}
 use lib.Count.{leadingZeros, leading-top, leading-unique, leading-length, leading-of-zero}
 use lib.Pow.{pow-mono}

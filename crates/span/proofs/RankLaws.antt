@@ -3,25 +3,27 @@
 --   rank-le-length       a list of which each number is a sum is no shorter than the rank
 --   rank-le, rank-span   a smaller span has no greater rank; the same span has the same
 --   rank-width           numbers of k bits have rank at most k
---   independent-rank, rank-independent    the scan keeps all exactly when the list is independent
+--   rank-positions       the rank is the number of kept positions
+--   independent-rank, rank-independent    the rank is the length exactly when the list is independent
+--   independent-all-kept, all-kept-independent    the scan keeps all exactly when the list is independent
 --   rank-xor             the rank of a sum of two maps is at most the sum of the ranks
---   rank-after, rank-before    the rank of a composition is at most that of either map
+--   rank-after-inner, rank-after-outer    the rank of a composition is at most that of either map
 use Prim.Native.Nat.{ℕ, zero, suc, _+_, _^_, _≤_, _<_}
-use mathlib.Core.Path.{_≡_, refl, sym, ap, ap₂, _∙_}
-use mathlib.Core.List.{List, [], _∷_, _++_, map}
-use native.Mathlib.Nat.{le-antisymm, le-trans, le-of-eq}
+use mathlib.Core.Path.{_≡_, refl, sym, ap, _∙_}
+use mathlib.Core.List.{List, _++_, map}
+use native.Mathlib.Nat.{le-antisymm}
 use native.Mathlib.Omega.{arith}
 use lib.Bits.{bitXor}
 use lib.ListN.{length, getD, length-map, length-append}
-use lib.Pow.{pow-pos}
 use Rattle.bits.specs.Image.{image, AllBelow, Linear, columns}
-use Rattle.bits.proofs.ImageLaws.{image-zero, linear-map, linear-image, columns-length, columns-at, image-unit}
-use Rattle.span.specs.Maps.{Into, Injective}
+use Rattle.bits.proofs.ImageLaws.{image-zero, linear-map, linear-image, columns-length, columns-at}
+use Rattle.span.specs.Maps.{Injective}
 use Rattle.span.specs.Sums.{SumOf, Independent}
-use Rattle.span.specs.Scan.{members, keptAt, kept, rank, units, over}
+use Rattle.span.specs.Scan.{members, keptAt, IsKept, kept, rank, units, over}
 use Rattle.span.proofs.Counting.{injective-onto}
-use Rattle.span.proofs.SumLaws.{sum-image, sum-member, sum-xor, sum-left, sum-right, span-trans, independent-le, independent-width, independent-injective}
-use Rattle.span.proofs.ScanLaws.{members-at, kept-independent, kept-below, scanned-sum, image-over, over-below}
+use Rattle.span.proofs.SumLaws.{length-snoc, sum-image, sum-member, sum-xor, sum-left, sum-right, span-trans, independent-le, independent-width, independent-injective}
+use Rattle.span.proofs.ScanLaws.{members-at, keptAt-new, kept-independent, keptAt-below, scanned-sum}
+use Rattle.span.proofs.MaskLaws.{image-over, over-below, dependent-at}
 
 pub kept-all-independent : (vs : List ℕ) → Independent (kept vs)
 unfolding kept
@@ -53,7 +55,7 @@ pub kept-all-below : (b : ℕ) (vs : List ℕ) → AllBelow b vs → AllBelow b 
 unfolding kept
 kept-all-below b vs below l h =
     let k : l < length (keptAt vs (length vs)) = rw length-map at h in
-    rw (members-at vs (keptAt vs (length vs)) l k) (below (getD (keptAt vs (length vs)) l 0) (kept-below vs (length vs) l k))
+    rw (members-at vs (keptAt vs (length vs)) l k) (below (getD (keptAt vs (length vs)) l 0) (keptAt-below vs (length vs) l k))
 
 pub rank-width : (k : ℕ) (vs : List ℕ) → AllBelow (2 ^ k) vs → rank vs ≤ k
 unfolding rank
@@ -67,7 +69,7 @@ independent-rank vs ind =
 pub rank-independent : (vs : List ℕ) → rank vs ≡ length vs → Independent vs
 unfolding rank kept
 rank-independent vs full m h e =
-    let found = injective-onto (λ s k. over-below (length vs) ps (kept-below vs (length vs)) s) over-injective m h in
+    let found = injective-onto (λ s k. over-below (length vs) ps (keptAt-below vs (length vs)) s) over-injective m h in
     let s = found .0 in
     let zero-mask : s ≡ 0
     = kept-independent vs (length vs) s (rw full (found .1)) (sym (image-over vs ps s) ∙ ap (image vs) (found .2) ∙ e) in
@@ -80,6 +82,22 @@ rank-independent vs full m h e =
     over-injective s t k l same =
         independent-injective (members vs ps) (kept-independent vs (length vs)) s t (rw full k) (rw full l)
         (sym (image-over vs ps s) ∙ ap (image vs) same ∙ image-over vs ps t)
+
+pub rank-positions : (vs : List ℕ) → rank vs ≡ length (keptAt vs (length vs))
+unfolding rank kept
+rank-positions vs = length-map (keptAt vs (length vs)) (λ p. getD vs p 0)
+
+pub independent-all-kept : (vs : List ℕ) → Independent vs → (i : ℕ) → i < length vs → IsKept vs i
+independent-all-kept vs ind i h s = dependent-at vs i h s ind
+
+pub all-kept-independent : (vs : List ℕ) → ((i : ℕ) → i < length vs → IsKept vs i) → Independent vs
+unfolding keptAt
+all-kept-independent vs all = rank-independent vs (rank-positions vs ∙ all-places (length vs) (omega arith))
+  where
+    all-places : (i : ℕ) → i ≤ length vs → length (keptAt vs i) ≡ i
+    all-places zero h = refl
+    all-places (suc i) h =
+        ap length (keptAt-new vs i (all i h)) ∙ length-snoc (keptAt vs i) i ∙ ap suc (all-places i (omega arith))
 
 -- ---- maps, by their columns
 
@@ -98,9 +116,9 @@ rank-xor n f g =
     (columns-sum n (λ x. bitXor (f x) (g x))
     (λ j h. sum-xor (sum-left (kept (columns n g)) (value-sum n f j h)) (sum-right (kept (columns n f)) (value-sum n g j h)))))
 
-pub rank-after : (n : ℕ) (f g : ℕ → ℕ) → Linear g → rank (columns n (λ x. g (f x))) ≤ rank (columns n f)
+pub rank-after-inner : (n : ℕ) (f g : ℕ → ℕ) → Linear g → rank (columns n (λ x. g (f x))) ≤ rank (columns n f)
 unfolding rank
-rank-after n f g linear =
+rank-after-inner n f g linear =
     rw (← length-map (kept (columns n f)) g)
     (rank-le-length (columns n (λ x. g (f x))) (map g (kept (columns n f)))
     (columns-sum n (λ x. g (f x)) (λ j h. image-of (value-sum n f j h))))
@@ -110,9 +128,9 @@ rank-after n f g linear =
         rw (sym (linear-map g linear (kept (columns n f)) (s .selected)) ∙ ap g (s .sum)) at
         (sum-image (map g (kept (columns n f))) (s .selected))
 
-pub rank-before : (n m : ℕ) (f g : ℕ → ℕ) → Linear g → ((j : ℕ) → j < n → f (2 ^ j) < 2 ^ m)
+pub rank-after-outer : (n m : ℕ) (f g : ℕ → ℕ) → Linear g → ((j : ℕ) → j < n → f (2 ^ j) < 2 ^ m)
     → rank (columns n (λ x. g (f x))) ≤ rank (columns m g)
-rank-before n m f g linear into =
+rank-after-outer n m f g linear into =
     rank-le (columns n (λ x. g (f x))) (columns m g)
     (columns-sum n (λ x. g (f x))
     (λ j h. rw (← linear-image m g linear (f (2 ^ j)) (into j h)) at (sum-image (columns m g) (f (2 ^ j)))))

@@ -4,11 +4,13 @@
 --   dots-lt        what l rows make has l bits
 --   dots-xor       rows make a linear map
 --   dots-bit       bit l of what the rows make of x is the dot of row l and x
---   adjoint        the dot of a sum of rows and x is the dot of the selection and what the rows make of x
+--   dot-image        the dot of a sum of rows and x is the dot of the selection and what the rows make of x
 --   dot-same       two numbers of k bits that have the same dot with each number of k bits are equal
 --   rows-length    there are m rows
 --   rows-at        row i is what the columns make of 2^i: bit i of each
 --   rows-below     a row has as many bits as there are columns
+--   rows-bit           bit j of row i is bit i of column j
+--   row-dot            a row AND x is odd exactly when that bit of the image is 1
 --   rows-image     the rows of columns make of x its image under the columns
 --   rows-rows      the rows of the rows are the columns
 use Prim.Native.Nat.{ℕ, zero, suc, _+_, _*_, _/_, _%_, _^_, _<_, min}
@@ -24,7 +26,7 @@ use lib.Seq.{ext-getD}
 use Rattle.bits.specs.Image.{chosen, image, AllBelow, Linear, columns}
 use Rattle.bits.specs.Parity.{bit, dot}
 use Rattle.bits.proofs.XorLaws.{by-halves, even-or-odd, xor-half, xor-low}
-use Rattle.bits.proofs.ParityLaws.{dot-lt, dot-comm, dot-zero, dot-xor, xor-dot, dot-step, bit-suc, dot-unit, by-bits}
+use Rattle.bits.proofs.ParityLaws.{dot-lt, dot-comm, dot-zero, dot-xor-right, dot-xor-left, dot-step, bit-suc, dot-unit, by-bits}
 use Rattle.bits.proofs.ImageLaws.{image-nil, image-cons, image-unit, image-lt, columns-length, columns-at}
 use Rattle.span.specs.Rows.{dots, rows}
 
@@ -51,7 +53,7 @@ dots-xor [] x y = simp dots-nil
 dots-xor (r ∷ rs) x y =
     by-halves (simp (xor-half, dots-half) (dots-xor rs x y))
     (dots-low r rs (bitXor x y)
-    ∙ dot-xor r x y
+    ∙ dot-xor-right r x y
     ∙ omega (arith, xor-low (dots (r ∷ rs) x) (dots (r ∷ rs) y), dots-low r rs x, dots-low r rs y))
 
 pub dots-bit : (rs : List ℕ) (x l : ℕ) → l < length rs → bit l (dots rs x) ≡ dot (getD rs l 0) x
@@ -63,12 +65,12 @@ chosen-dot : (s r x : ℕ) → dot (chosen (s % 2) r) x ≡ min (s % 2) (dot r x
 chosen-dot s r x =
     ⊎-elim (λ e. rw e (dot-comm 0 x ∙ dot-zero x ∙ omega arith)) (λ e. rw e (omega (arith, dot-lt r x))) (even-or-odd s)
 
-pub adjoint : (rs : List ℕ) (s x : ℕ) → dot (image rs s) x ≡ dot s (dots rs x)
-adjoint [] s x = rw (image-nil, dots-nil, dot-zero s) (dot-comm 0 x ∙ dot-zero x)
-adjoint (r ∷ rs) s x =
+pub dot-image : (rs : List ℕ) (s x : ℕ) → dot (image rs s) x ≡ dot s (dots rs x)
+dot-image [] s x = rw (image-nil, dots-nil, dot-zero s) (dot-comm 0 x ∙ dot-zero x)
+dot-image (r ∷ rs) s x =
     ap (λ v. dot v x) (image-cons r rs s)
-    ∙ xor-dot (chosen (s % 2) r) (image rs (s / 2)) x
-    ∙ ap₂ (λ a b. (a + b) % 2) (chosen-dot s r x) (adjoint rs (s / 2) x)
+    ∙ dot-xor-left (chosen (s % 2) r) (image rs (s / 2)) x
+    ∙ ap₂ (λ a b. (a + b) % 2) (chosen-dot s r x) (dot-image rs (s / 2) x)
     ∙ sym (dot-step s (dots (r ∷ rs) x) ∙ rw (dots-half, dots-low))
 
 pub dot-same : (k a b : ℕ) → a < 2 ^ k → b < 2 ^ k → ((x : ℕ) → x < 2 ^ k → dot a x ≡ dot b x) → a ≡ b
@@ -85,12 +87,18 @@ rows-at m cs = columns-at m (dots cs)
 pub rows-below : (m : ℕ) (cs : List ℕ) → AllBelow (2 ^ length cs) (rows m cs)
 rows-below m cs = λ i h. rw (rows-at m cs i (omega (arith, rows-length m cs))) (dots-lt cs (2 ^ i))
 
+pub rows-bit : (m : ℕ) (cs : List ℕ) (i j : ℕ) → i < m → j < length cs → bit j (getD (rows m cs) i 0) ≡ bit i (getD cs j 0)
+rows-bit m cs i j h l = ap (bit j) (rows-at m cs i h) ∙ dots-bit cs (2 ^ i) j l ∙ dot-unit i (getD cs j 0)
+
 pub rows-image : (m : ℕ) (cs : List ℕ) → AllBelow (2 ^ m) cs → (x : ℕ) → dots (rows m cs) x ≡ image cs x
 rows-image m cs h x =
     by-bits m (dots (rows m cs) x) (image cs x) (rw rows-length at (dots-lt (rows m cs) x)) (image-lt m cs h x)
     (λ i l.
     dots-bit (rows m cs) x i (rw rows-length l)
-    ∙ rw (rows-at m cs i l, dot-comm, ← adjoint cs x (2 ^ i)) (dot-unit i (image cs x)))
+    ∙ rw (rows-at m cs i l, dot-comm, ← dot-image cs x (2 ^ i)) (dot-unit i (image cs x)))
+
+pub row-dot : (m : ℕ) (cs : List ℕ) → AllBelow (2 ^ m) cs → (x i : ℕ) → i < m → dot (getD (rows m cs) i 0) x ≡ bit i (image cs x)
+row-dot m cs below x i h = sym (dots-bit (rows m cs) x i (rw rows-length h)) ∙ ap (bit i) (rows-image m cs below x)
 
 pub rows-rows : (m : ℕ) (cs : List ℕ) → AllBelow (2 ^ m) cs → rows (length cs) (rows m cs) ≡ cs
 rows-rows m cs h =

@@ -6,26 +6,27 @@
 --   rank-full          if only 0 vanishes on all rows, of k bits each, their rank is k
 --   rank-le-rows       the rank of columns is at most that of their rows
 --   rank-rows          the rank of the rows is the rank of the columns
+--   image-factor       an image goes by way of the kept rows: it is a sum of as many independent columns, chosen by what those rows make of x
 use Prim.Native.Nat.{ℕ, suc, _^_, _≤_, _<_}
-use mathlib.Core.Path.{_≡_, _∙_}
+use mathlib.Core.Path.{_≡_, sym, _∙_}
 use mathlib.Core.List.{List, [], _∷_}
 use mathlib.Core.Logic.{_↔_}
 use native.Mathlib.Omega.{arith}
-use native.Mathlib.Nat.{le-antisymm}
+use native.Mathlib.Nat.{le-antisymm, le-trans, le-of-eq}
 use lib.Bits.{bitXor, xor-self, xor-lt}
 use lib.ListN.{length, getD}
-use Rattle.bits.specs.Image.{AllBelow, columns}
+use Rattle.bits.specs.Image.{image, AllBelow, columns}
 use Rattle.bits.specs.Parity.{dot}
 use Rattle.bits.proofs.XorLaws.{xor-zero-eq}
 use Rattle.bits.proofs.ImageLaws.{image-unit, linear-zero, linear-image, columns-length}
 use Rattle.span.specs.Maps.{Injective}
-use Rattle.span.specs.Sums.{SumOf}
+use Rattle.span.specs.Sums.{SumOf, Independent}
 use Rattle.span.specs.Scan.{kept, rank}
 use Rattle.span.specs.Rows.{dots, rows}
 use Rattle.span.proofs.Counting.{injective-width}
-use Rattle.span.proofs.SumLaws.{sum-image, span-trans}
-use Rattle.span.proofs.RankLaws.{kept-all-independent, kept-sum, kept-member, kept-all-below, rank-le-length, rank-width}
-use Rattle.span.proofs.RowLaws.{dots-nil, dots-cons, dots-lt, dots-xor, adjoint, rows-below, rows-image, rows-rows}
+use Rattle.span.proofs.SumLaws.{sum-image, sum-member, span-trans}
+use Rattle.span.proofs.RankLaws.{kept-all-independent, kept-sum, kept-member, kept-all-below, rank-le-length, rank-le, rank-width, rank-independent}
+use Rattle.span.proofs.RowLaws.{dots-nil, dots-cons, dots-lt, dots-xor, dot-image, rows-below, rows-image, rows-rows}
 use Rattle.span.proofs.DualLaws.{functional-sum}
 
 pub factored : (rs ks : List ℕ) → ((j : ℕ) → j < length rs → SumOf ks (getD rs j 0))
@@ -34,7 +35,7 @@ factored [] ks sums = ([], λ x. simp dots-nil)
 factored (r ∷ rs) ks sums =
     let s : SumOf ks r = sums 0 (omega arith) in
     let rest = factored rs ks (λ j h. sums (suc j) (omega arith)) in
-    (s .selected ∷ rest .0, λ x. simp dots-cons (rw (← adjoint ks (s .selected) x, s .sum, rest .1 x)))
+    (s .selected ∷ rest .0, λ x. simp dots-cons (rw (← dot-image ks (s .selected) x, s .sum, rest .1 x)))
 
 pub vanish-span : (rs ks : List ℕ) → ((j : ℕ) → j < length rs → SumOf ks (getD rs j 0)) → (x : ℕ) → dots ks x ≡ 0 → dots rs x ≡ 0
 vanish-span rs ks sums x e = let m = factored rs ks sums in m .1 x ∙ rw e (linear-zero (dots (m .0)) (dots-xor (m .0)))
@@ -76,3 +77,33 @@ rank-le-rows m cs below =
 pub rank-rows : (m : ℕ) (cs : List ℕ) → AllBelow (2 ^ m) cs → rank (rows m cs) ≡ rank cs
 rank-rows m cs below =
     le-antisymm (rw (rows-rows m cs below) at (rank-le-rows (length cs) (rows m cs) (rows-below m cs))) (rank-le-rows m cs below)
+
+-- the columns of the second factor, as many as there are kept rows, have the rank of cs at least, so they are independent
+pub image-factor : (m : ℕ) (cs : List ℕ) → AllBelow (2 ^ m) cs
+    → (ws : List ℕ) × (length ws ≡ rank (rows m cs)) × Independent ws × ((x : ℕ) → image cs x ≡ image ws (dots (kept (rows m cs)) x))
+unfolding rank
+image-factor m cs below = (ws, count, independent, factors)
+  where
+    ks : List ℕ
+    ks = kept (rows m cs)
+
+    f : (ms : List ℕ) × ((x : ℕ) → dots (rows m cs) x ≡ dots ms (dots ks x))
+    f = factored (rows m cs) ks (kept-sum (rows m cs))
+
+    ws : List ℕ
+    ws = columns (length ks) (dots (f .0))
+
+    count : length ws ≡ length ks
+    count = columns-length (length ks) (dots (f .0))
+
+    factors : (x : ℕ) → image cs x ≡ image ws (dots ks x)
+    factors x = sym (rows-image m cs below x) ∙ f .1 x ∙ linear-image (length ks) (dots (f .0)) (dots-xor (f .0)) (dots ks x) (dots-lt ks x)
+
+    sums : (j : ℕ) → j < length cs → SumOf ws (getD cs j 0)
+    sums j h = rw (sym (factors (2 ^ j)) ∙ image-unit cs j) at (sum-image ws (dots ks (2 ^ j)))
+
+    independent : Independent ws
+    independent =
+        rank-independent ws
+        (le-antisymm (rank-le-length ws ws (λ j h. sum-member ws j))
+        (le-trans (le-of-eq (count ∙ rank-rows m cs below)) (rank-le cs ws sums)))

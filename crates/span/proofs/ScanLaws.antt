@@ -1,31 +1,28 @@
--- The scan, for any list: what is kept, and the masks.
+-- The scan, for any list: what is kept.
 --   members-at, units-at     the member and the unit at a place of a list of positions
+--   kept-or-sum              each number is kept, or is a sum of those kept before it
+--   keptAt-old, keptAt-new   a sum adds no position; any other number adds its own
+--   keptAt-below             the positions kept among the first i are below i
+--   keptAt-ascending         they ascend
 --   kept-independent         the numbers kept are independent
---   kept-below               the positions kept among the first i are below i
---   kept-more                a sum over the positions kept is one over those kept later: of members, and of units
+--   keptAt-more              a sum over the positions kept is one over those kept later: of members, and of units
 --   scanned-sum              each scanned number is a sum of those kept at or before it
---   members-prefix, kept-prefix    the scan of a list's beginning is the beginning of its scan
---   image-over               a mask over some positions selects the members there
---   over-below               a mask over positions below i has i bits
---   mask-sum                 each scanned number is the sum that its mask says
---   mask-over                its mask selects kept positions, at or before it
---   mask-unique              it is the only mask over kept positions that does
---   mask-kept, mask-before   a kept number is its own mask; any other's selects positions before it
-use Prim.Native.Nat.{ℕ, zero, suc, _+_, _^_, _≤_, _<_}
-use mathlib.Core.Path.{_≡_, refl, sym, ap, ap₂, _∙_}
+--   span-earlier             the sums of those kept are the sums of all scanned so far
+--   IsKept-earlier           so a number is kept exactly when it is no sum of earlier ones
+--   members-prefix, keptAt-prefix, IsKept-prefix, mask-prefix    the scan of a list's beginning is the beginning of its scan
+use Prim.Native.Nat.{ℕ, zero, suc, _^_, _≤_, _<_}
+use mathlib.Core.Path.{_≡_, refl, ap, ap₂, _∙_}
 use mathlib.Core.List.{List, [], _∷_, _++_, map, map-append}
-use mathlib.Core.Logic.{_⊎_, inl, inr, ⊎-elim}
+use mathlib.Core.Logic.{_⊎_, inl, inr, ⊎-elim, _↔_}
+use native.Mathlib.Decide.{le-ind, decLt}
 use native.Mathlib.Omega.{arith}
-use native.Mathlib.Decide.{le-ind}
-use lib.Bits.{bitXor}
-use lib.ListN.{length, getD, length-map, List·getD-append, List·getD-map}
-use lib.Pow.{pow-pos, pow-lt, pow-mono}
-use lib.Seq.{getD-append-seam}
-use Rattle.bits.specs.Image.{image, AllBelow}
-use Rattle.bits.proofs.ImageLaws.{below-append, below-one, image-unit, image-image, image-lt}
+use lib.ListN.{length, getD, take, length-map, length-take, length-append, List·getD-append}
+use lib.Seq.{getD-take, getD-append-seam}
+use Rattle.bits.specs.Image.{AllBelow}
+use Rattle.bits.proofs.ImageLaws.{below-append, below-one}
 use Rattle.span.specs.Sums.{SumOf, sumOf?, Independent}
-use Rattle.span.specs.Scan.{members, withNext, keptAt, kept, rank, Kept, units, over, maskBy, mask}
-use Rattle.span.proofs.SumLaws.{sum-image, sum-member, sum-left, sum-right, span-trans, independent-nil, independent-snoc, independent-injective, length-snoc}
+use Rattle.span.specs.Scan.{members, withNext, keptAt, SumBefore, IsKept, units, maskBy, mask}
+use Rattle.span.proofs.SumLaws.{sum-member, sum-left, sum-right, span-trans, independent-nil, independent-snoc}
 
 map-at : (f : ℕ → ℕ) (ps : List ℕ) (l : ℕ) → l < length ps → getD (map f ps) l 0 ≡ f (getD ps l 0)
 map-at f [] l h = absurd (omega arith)
@@ -38,49 +35,102 @@ members-at vs = map-at (λ p. getD vs p 0)
 pub units-at : (ps : List ℕ) (l : ℕ) → l < length ps → getD (units ps) l 0 ≡ 2 ^ getD ps l 0
 units-at = map-at (λ p. 2 ^ p)
 
--- what holds of a list of kept positions as the scan goes from one number to the next
-module _ (vs ps : List ℕ) (i : ℕ) where
-  abbrev Next : Type 0
-  Next = Dec (SumOf (members vs ps) (getD vs i 0))
+-- ---- one step of the scan
 
-  grown : members vs (ps ++ (i ∷ [])) ≡ members vs ps ++ (getD vs i 0 ∷ [])
-  grown = map-append (λ p. getD vs p 0) ps (i ∷ [])
+decision : (vs : List ℕ) (i : ℕ) → Dec (SumBefore vs i)
+decision vs i = sumOf? (members vs (keptAt vs i)) (getD vs i 0)
 
-  step-independent : (d : Next) → Independent (members vs ps) → Independent (members vs (withNext d ps i))
-  step-independent (yes s) ind = ind
-  step-independent (no n) ind = rw grown (independent-snoc (members vs ps) (getD vs i 0) ind n)
+pub kept-or-sum : (vs : List ℕ) (i : ℕ) → IsKept vs i ⊎ SumBefore vs i
+kept-or-sum vs i = elim (decision vs i) [ yes s ↦ inr s | no k ↦ inl k ]
 
-  step-keeps : (f : ℕ → ℕ) (d : Next) {v : ℕ} → SumOf (map f ps) v → SumOf (map f (withNext d ps i)) v
-  step-keeps f (yes s) t = t
-  step-keeps f (no n) t = rw (map-append f ps (i ∷ [])) (sum-left (f i ∷ []) t)
+next : (vs : List ℕ) (i : ℕ) → keptAt vs (suc i) ≡ withNext (decision vs i) (keptAt vs i) i
+unfolding keptAt decision
+next vs i = refl
 
-  step-sum : (d : Next) → SumOf (members vs (withNext d ps i)) (getD vs i 0)
-  step-sum (yes s) = s
-  step-sum (no n) = rw grown (sum-right (members vs ps) (sum-member (getD vs i 0 ∷ []) 0))
+pub keptAt-old : (vs : List ℕ) (i : ℕ) → SumBefore vs i → keptAt vs (suc i) ≡ keptAt vs i
+keptAt-old vs i s = next vs i ∙ go (decision vs i)
+  where
+    go : (d : Dec (SumBefore vs i)) → withNext d (keptAt vs i) i ≡ keptAt vs i
+    go (yes t) = refl
+    go (no k) = absurd (k s)
 
-  step-below : (d : Next) → AllBelow i ps → AllBelow (suc i) (withNext d ps i)
-  step-below (yes s) b l h = omega (arith, b l h)
-  step-below (no n) b l h =
-      below-append (suc i) ps (i ∷ []) (λ l h. omega (arith, b l h)) (below-one (suc i) i (omega arith)) l h
+pub keptAt-new : (vs : List ℕ) (i : ℕ) → IsKept vs i → keptAt vs (suc i) ≡ keptAt vs i ++ (i ∷ [])
+keptAt-new vs i k = next vs i ∙ go (decision vs i)
+  where
+    go : (d : Dec (SumBefore vs i)) → withNext d (keptAt vs i) i ≡ keptAt vs i ++ (i ∷ [])
+    go (yes s) = absurd (k s)
+    go (no n) = refl
+
+grown : (vs ps : List ℕ) (i : ℕ) → members vs (ps ++ (i ∷ [])) ≡ members vs ps ++ (getD vs i 0 ∷ [])
+grown vs ps i = map-append (λ p. getD vs p 0) ps (i ∷ [])
+
+-- what holds of no position, and stays when one is added that is kept, holds of the positions kept
+by-steps : (vs : List ℕ) (P : ℕ → List ℕ → Type 0) → P 0 [] → ((i : ℕ) → P i (keptAt vs i) → P (suc i) (keptAt vs i))
+    → ((i : ℕ) → IsKept vs i → P i (keptAt vs i) → P (suc i) (keptAt vs i ++ (i ∷ []))) → (i : ℕ) → P i (keptAt vs i)
+unfolding keptAt
+by-steps vs P start old new zero = start
+by-steps vs P start old new (suc i) = go (by-steps vs P start old new i) (sumOf? (members vs (keptAt vs i)) (getD vs i 0))
+  where
+    go : P i (keptAt vs i) → (d : Dec (SumBefore vs i)) → P (suc i) (withNext d (keptAt vs i) i)
+    go p (yes s) = old i p
+    go p (no k) = new i k p
 
 pub kept-independent : (vs : List ℕ) (i : ℕ) → Independent (members vs (keptAt vs i))
-unfolding keptAt
-kept-independent vs zero = independent-nil
-kept-independent vs (suc i) = step-independent vs (keptAt vs i) i (sumOf? (members vs (keptAt vs i)) (getD vs i 0)) (kept-independent vs i)
+kept-independent vs =
+    by-steps vs (λ i ps. Independent (members vs ps)) independent-nil (λ i ind. ind)
+    (λ i k ind. rw (grown vs (keptAt vs i) i) (independent-snoc (members vs (keptAt vs i)) (getD vs i 0) ind k))
 
-pub kept-below : (vs : List ℕ) (i : ℕ) → AllBelow i (keptAt vs i)
-unfolding keptAt
-kept-below vs zero l h = absurd (omega arith)
-kept-below vs (suc i) l h = step-below vs (keptAt vs i) i (sumOf? (members vs (keptAt vs i)) (getD vs i 0)) (kept-below vs i) l h
+pub keptAt-below : (vs : List ℕ) (i : ℕ) → AllBelow i (keptAt vs i)
+keptAt-below vs =
+    by-steps vs (λ i ps. AllBelow i ps) (λ l h. absurd (omega arith)) (λ i b l h. omega (arith, b l h))
+    (λ i k b. below-append (suc i) (keptAt vs i) (i ∷ []) (λ l h. omega (arith, b l h)) (below-one (suc i) i (omega arith)))
 
-pub kept-more : (vs : List ℕ) (f : ℕ → ℕ) {i k : ℕ} → i ≤ k → {v : ℕ} → SumOf (map f (keptAt vs i)) v → SumOf (map f (keptAt vs k)) v
-kept-more vs f {i} {k} h {v} s =
-    le-ind (λ (k : ℕ). SumOf (map f (keptAt vs k)) v) s
-    (λ k l t. unfold keptAt in step-keeps vs (keptAt vs k) k f (sumOf? (members vs (keptAt vs k)) (getD vs k 0)) t) k h
+pub keptAt-ascending : (vs : List ℕ) (i l : ℕ) → suc l < length (keptAt vs i) → getD (keptAt vs i) l 0 < getD (keptAt vs i) (suc l) 0
+keptAt-ascending vs =
+    by-steps vs (λ i ps. Ascends ps) (λ l h. absurd (omega arith)) (λ i up. up)
+    (λ i k up. ascends-snoc (keptAt vs i) i (keptAt-below vs i) up)
+  where
+    Ascends : List ℕ → Type 0
+    Ascends ps = (l : ℕ) → suc l < length ps → getD ps l 0 < getD ps (suc l) 0
+
+    ascends-snoc : (ps : List ℕ) (i : ℕ) → AllBelow i ps → Ascends ps → Ascends (ps ++ (i ∷ []))
+    ascends-snoc ps i b up l h =
+        let inside : l < length ps = omega (arith, length-append ps (i ∷ [])) in
+        rw (List·getD-append ps (i ∷ []) 0 l inside)
+        (elim (decLt (suc l) (length ps)) [
+          | yes k ↦ rw (List·getD-append ps (i ∷ []) 0 (suc l) k) (up l k)
+          | no k ↦ let last : suc l ≡ length ps = omega arith in rw (last, getD-append-seam ps i [] 0) (b l inside)
+        ])
+
+pub keptAt-more : (vs : List ℕ) (f : ℕ → ℕ) {i k : ℕ} → i ≤ k → {v : ℕ} → SumOf (map f (keptAt vs i)) v → SumOf (map f (keptAt vs k)) v
+keptAt-more vs f {i} {k} h {v} s = le-ind (λ (k : ℕ). SumOf (map f (keptAt vs k)) v) s (λ k l. step k) k h
+  where
+    step : (k : ℕ) → SumOf (map f (keptAt vs k)) v → SumOf (map f (keptAt vs (suc k))) v
+    step k t = ⊎-elim
+        (λ new. rw (keptAt-new vs k new, map-append f (keptAt vs k) (k ∷ [])) (sum-left (f k ∷ []) t))
+        (λ old. rw (keptAt-old vs k old) t)
+        (kept-or-sum vs k)
 
 pub scanned-sum : (vs : List ℕ) {j i : ℕ} → j < i → SumOf (members vs (keptAt vs i)) (getD vs j 0)
-scanned-sum vs {j} h =
-    kept-more vs (λ p. getD vs p 0) h (unfold keptAt in step-sum vs (keptAt vs j) j (sumOf? (members vs (keptAt vs j)) (getD vs j 0)))
+scanned-sum vs {j} h = keptAt-more vs (λ p. getD vs p 0) h (⊎-elim
+    (λ new. rw (keptAt-new vs j new, grown vs (keptAt vs j) j) (sum-right (members vs (keptAt vs j)) (sum-member (getD vs j 0 ∷ []) 0)))
+    (λ old. rw (keptAt-old vs j old) old)
+    (kept-or-sum vs j))
+
+-- ---- kept ones and earlier ones
+
+pub span-earlier : (vs : List ℕ) (i v : ℕ) → i ≤ length vs → SumOf (take i vs) v ↔ SumOf (members vs (keptAt vs i)) v
+span-earlier vs i v h = (
+  span-trans {cs = take i vs} (λ j l. let k : j < i = omega (arith, length-take i vs) in rw (getD-take i vs j 0 k) (scanned-sum vs k)),
+  span-trans {cs = members vs (keptAt vs i)}
+      (λ l k.
+      let m : l < length (keptAt vs i) = rw length-map at k in
+      let p : ℕ = getD (keptAt vs i) l 0 in
+      rw (members-at vs (keptAt vs i) l m, ← getD-take i vs p 0 (keptAt-below vs i l m)) (sum-member (take i vs) p)),
+)
+
+pub IsKept-earlier : (vs : List ℕ) (i : ℕ) → i ≤ length vs → IsKept vs i ↔ (¬ SumOf (take i vs) (getD vs i 0))
+IsKept-earlier vs i h = (λ k s. k (span-earlier vs i (getD vs i 0) h .0 s), λ n s. n (span-earlier vs i (getD vs i 0) h .1 s))
 
 -- ---- the scan of a list's beginning is the beginning of its scan
 
@@ -91,70 +141,32 @@ module _ (vs ws : List ℕ) where
       ap₂ (λ (v : ℕ) (l : List ℕ). v ∷ l) (List·getD-append vs ws 0 p (b 0 (omega arith)))
       (members-prefix ps (λ l h. b (suc l) (omega arith)))
 
-  pub kept-prefix : (i : ℕ) → i ≤ length vs → keptAt (vs ++ ws) i ≡ keptAt vs i
+  -- what a step of the scan looks at is the same
+  same-step : {i : ℕ} → i < length vs → keptAt (vs ++ ws) i ≡ keptAt vs i
+      → (members (vs ++ ws) (keptAt (vs ++ ws) i) ≡ members vs (keptAt vs i)) × (getD (vs ++ ws) i 0 ≡ getD vs i 0)
+  same-step {i} h same = (
+    ap (members (vs ++ ws)) same ∙ members-prefix (keptAt vs i) (λ l k. omega (arith, keptAt-below vs i l k)),
+    List·getD-append vs ws 0 i h,
+  )
+
+  pub keptAt-prefix : (i : ℕ) → i ≤ length vs → keptAt (vs ++ ws) i ≡ keptAt vs i
   unfolding keptAt
-  kept-prefix zero h = refl
-  kept-prefix (suc i) h =
-      let same : keptAt (vs ++ ws) i ≡ keptAt vs i = kept-prefix i (omega arith) in
-      let inside : AllBelow (length vs) (keptAt vs i) = λ l k. omega (arith, kept-below vs i l k) in
-      ap (λ (ps : List ℕ). withNext (sumOf? (members (vs ++ ws) ps) (getD (vs ++ ws) i 0)) ps i) same
-      ∙ ap₂ (λ (cs : List ℕ) (v : ℕ). withNext (sumOf? cs v) (keptAt vs i) i) (members-prefix (keptAt vs i) inside)
-      (List·getD-append vs ws 0 i h)
+  keptAt-prefix zero h = refl
+  keptAt-prefix (suc i) h =
+      let same = keptAt-prefix i (omega arith) in
+      let step = same-step h same in
+      ap (λ (ps : List ℕ). withNext (sumOf? (members (vs ++ ws) (keptAt (vs ++ ws) i)) (getD (vs ++ ws) i 0)) ps i) same
+      ∙ ap₂ (λ (cs : List ℕ) (v : ℕ). withNext (sumOf? cs v) (keptAt vs i) i) (step .0) (step .1)
 
--- ---- masks
+  pub IsKept-prefix : (i : ℕ) → i < length vs → IsKept (vs ++ ws) i ↔ IsKept vs i
+  IsKept-prefix i h =
+      let step = same-step h (keptAt-prefix i (omega arith)) in
+      (λ k s. k (rw (step .0, step .1) s), λ k s. k (rw (step .0, step .1) at s))
 
-pub image-over : (vs ps : List ℕ) (m : ℕ) → image vs (over ps m) ≡ image (members vs ps) m
-image-over vs ps m = image-image vs (units ps) m ∙ ap (λ (cs : List ℕ). image cs m) (at-units ps)
-  where
-    at-units : (ps : List ℕ) → map (image vs) (units ps) ≡ members vs ps
-    at-units [] = refl
-    at-units (p ∷ ps) = ap₂ (λ (v : ℕ) (l : List ℕ). v ∷ l) (image-unit vs p) (at-units ps)
-
-pub over-below : (i : ℕ) (ps : List ℕ) → AllBelow i ps → (m : ℕ) → over ps m < 2 ^ i
-over-below i ps b m =
-    image-lt i (units ps) (λ l h. let k : l < length ps = rw length-map at h in rw (units-at ps l k) (pow-lt (b l k))) m
-
-module _ (vs : List ℕ) (i : ℕ) where
-  by-sum : (ps : List ℕ) (d : Next vs ps i) → image vs (maskBy d ps i) ≡ getD vs i 0
-  by-sum ps (yes s) = image-over vs ps (s .selected) ∙ s .sum
-  by-sum ps (no n) = image-unit vs i
-
-  by-over : (ps : List ℕ) (d : Next vs ps i) → SumOf (units (withNext d ps i)) (maskBy d ps i)
-  by-over ps (yes s) = sum-image (units ps) (s .selected)
-  by-over ps (no n) = rw (map-append (λ p. 2 ^ p) ps (i ∷ [])) (sum-right (units ps) (sum-member (2 ^ i ∷ []) 0))
-
-  pub mask-sum : image vs (mask vs i) ≡ getD vs i 0
+  pub mask-prefix : (i : ℕ) → i < length vs → mask (vs ++ ws) i ≡ mask vs i
   unfolding mask
-  mask-sum = by-sum (keptAt vs i) (sumOf? (members vs (keptAt vs i)) (getD vs i 0))
-
-  pub mask-over : SumOf (units (keptAt vs (suc i))) (mask vs i)
-  unfolding mask keptAt
-  mask-over = by-over (keptAt vs i) (sumOf? (members vs (keptAt vs i)) (getD vs i 0))
-
-  pub mask-unique : {n m : ℕ} → i < n → SumOf (units (keptAt vs n)) m → image vs m ≡ getD vs i 0 → m ≡ mask vs i
-  mask-unique {n} {m} h s e =
-      let ps = keptAt vs n in
-      let t = kept-more vs (λ p. 2 ^ p) h mask-over in
-      let same : s .selected ≡ t .selected
-      = independent-injective (members vs ps) (kept-independent vs n) (s .selected) (t .selected) (by-length s) (by-length t)
-      (sym (image-over vs ps (s .selected)) ∙ ap (image vs) (s .sum) ∙ e ∙ sym mask-sum ∙ ap (image vs) (sym (t .sum)) ∙ image-over vs ps (t .selected)) in
-      sym (s .sum) ∙ ap (over ps) same ∙ t .sum
-    where
-      by-length : {m : ℕ} (s : SumOf (units (keptAt vs n)) m) → s .selected < 2 ^ length (members vs (keptAt vs n))
-      by-length s = rw (length-map (keptAt vs n) (λ p. getD vs p 0), ← length-map (keptAt vs n) (λ p. 2 ^ p)) (s .below)
-
-  pub mask-kept : Kept vs i → mask vs i ≡ 2 ^ i
-  unfolding mask
-  mask-kept k = go (sumOf? (members vs (keptAt vs i)) (getD vs i 0))
-    where
-      go : (d : Next vs (keptAt vs i) i) → maskBy d (keptAt vs i) i ≡ 2 ^ i
-      go (yes s) = absurd (k s)
-      go (no n) = refl
-
-  pub mask-before : SumOf (members vs (keptAt vs i)) (getD vs i 0) → mask vs i < 2 ^ i
-  unfolding mask
-  mask-before t = go (sumOf? (members vs (keptAt vs i)) (getD vs i 0))
-    where
-      go : (d : Next vs (keptAt vs i) i) → maskBy d (keptAt vs i) i < 2 ^ i
-      go (yes s) = over-below i (keptAt vs i) (kept-below vs i) (s .selected)
-      go (no n) = absurd (n t)
+  mask-prefix i h =
+      let same = keptAt-prefix i (omega arith) in
+      let step = same-step h same in
+      ap (λ (ps : List ℕ). maskBy (sumOf? (members (vs ++ ws) (keptAt (vs ++ ws) i)) (getD (vs ++ ws) i 0)) ps i) same
+      ∙ ap₂ (λ (cs : List ℕ) (v : ℕ). maskBy (sumOf? cs v) (keptAt vs i) i) (step .0) (step .1)

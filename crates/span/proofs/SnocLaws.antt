@@ -4,9 +4,9 @@
 --   kept-old        if v is a sum of those kept, the same are kept
 --   kept-new        if not, v is kept after them
 --   sum-snoc        a sum of a list with v added is a sum of the list, or one with v taken away
---   Kept-snoc       v is kept exactly when it is no sum of those kept
-use Prim.Native.Nat.{ℕ, zero, suc, _/_, _%_, _^_, _<_, _≤_}
-use mathlib.Core.Path.{_≡_, refl, sym, ap, ap₂, _∙_}
+--   SumBefore-snoc, IsKept-snoc    v is a sum of those kept before it, or kept, as it is a sum of those kept of vs or not
+use Prim.Native.Nat.{ℕ, suc, _/_, _%_, _^_}
+use mathlib.Core.Path.{_≡_, sym, ap, ap₂, _∙_}
 use mathlib.Core.List.{List, [], _∷_, _++_, map-append}
 use mathlib.Core.Logic.{_⊎_, inl, inr, _↔_}
 use native.Mathlib.Omega.{arith}
@@ -16,10 +16,10 @@ use lib.Seq.{getD-append-seam}
 use Rattle.bits.specs.Image.{image, chosen}
 use Rattle.bits.proofs.XorLaws.{even-or-odd, xor-cancel-right}
 use Rattle.bits.proofs.ImageLaws.{image-snoc}
-use Rattle.span.specs.Sums.{SumOf, sumOf?}
-use Rattle.span.specs.Scan.{members, withNext, keptAt, kept, Kept}
+use Rattle.span.specs.Sums.{SumOf}
+use Rattle.span.specs.Scan.{members, keptAt, SumBefore, IsKept, kept}
 use Rattle.span.proofs.SumLaws.{length-snoc, sum-image}
-use Rattle.span.proofs.ScanLaws.{members-prefix, kept-prefix, kept-below}
+use Rattle.span.proofs.ScanLaws.{members-prefix, keptAt-prefix, keptAt-below, keptAt-old, keptAt-new}
 
 pub sum-snoc : (cs : List ℕ) (v w : ℕ) → SumOf (cs ++ (v ∷ [])) w → SumOf cs w ⊎ SumOf cs (bitXor w v)
 sum-snoc cs v w s = go (even-or-odd (s .selected / 2 ^ length cs))
@@ -41,35 +41,28 @@ module _ (vs : List ℕ) (v : ℕ) where
   pub next-at : getD more (length vs) 0 ≡ v
   next-at = getD-append-seam vs v [] 0
 
-  before : keptAt more (length vs) ≡ keptAt vs (length vs)
-  before = kept-prefix vs (v ∷ []) (length vs) (omega arith)
-
   pub next-members : members more (keptAt more (length vs)) ≡ kept vs
   unfolding kept
-  next-members = ap (members more) before ∙ members-prefix vs (v ∷ []) (keptAt vs (length vs)) (kept-below vs (length vs))
+  next-members =
+      ap (members more) (keptAt-prefix vs (v ∷ []) (length vs) (omega arith))
+      ∙ members-prefix vs (v ∷ []) (keptAt vs (length vs)) (keptAt-below vs (length vs))
 
-  pub Kept-snoc : Kept more (length vs) ↔ (¬ SumOf (kept vs) v)
-  Kept-snoc = (λ k s. k (rw (next-members, next-at) s), λ n s. n (rw (next-members, next-at) at s))
+  pub SumBefore-snoc : SumBefore more (length vs) ↔ SumOf (kept vs) v
+  SumBefore-snoc = (λ s. rw (next-members, next-at) at s, λ s. rw (next-members, next-at) s)
 
-  -- the last step of the scan
-  last : kept more ≡ members more (withNext (sumOf? (members more (keptAt more (length vs))) (getD more (length vs) 0)) (keptAt more (length vs)) (length vs))
-  unfolding kept keptAt
+  pub IsKept-snoc : IsKept more (length vs) ↔ (¬ SumOf (kept vs) v)
+  IsKept-snoc = (λ k s. k (SumBefore-snoc .1 s), λ n s. n (SumBefore-snoc .0 s))
+
+  last : kept more ≡ members more (keptAt more (suc (length vs)))
+  unfolding kept
   last = ap (λ (n : ℕ). members more (keptAt more n)) (length-snoc vs v)
 
   pub kept-old : SumOf (kept vs) v → kept more ≡ kept vs
-  kept-old s = last ∙ go (sumOf? (members more (keptAt more (length vs))) (getD more (length vs) 0))
-    where
-      go : (d : Dec (SumOf (members more (keptAt more (length vs))) (getD more (length vs) 0)))
-          → members more (withNext d (keptAt more (length vs)) (length vs)) ≡ kept vs
-      go (yes t) = next-members
-      go (no n) = absurd (Kept-snoc .0 n s)
+  kept-old s = last ∙ ap (members more) (keptAt-old more (length vs) (SumBefore-snoc .1 s)) ∙ next-members
 
   pub kept-new : ¬ SumOf (kept vs) v → kept more ≡ kept vs ++ (v ∷ [])
-  kept-new new = last ∙ go (sumOf? (members more (keptAt more (length vs))) (getD more (length vs) 0))
-    where
-      go : (d : Dec (SumOf (members more (keptAt more (length vs))) (getD more (length vs) 0)))
-          → members more (withNext d (keptAt more (length vs)) (length vs)) ≡ kept vs ++ (v ∷ [])
-      go (yes t) = absurd (Kept-snoc .1 new t)
-      go (no n) =
-          map-append (λ p. getD more p 0) (keptAt more (length vs)) (length vs ∷ [])
-          ∙ ap₂ (λ (cs : List ℕ) (c : ℕ). cs ++ (c ∷ [])) next-members next-at
+  kept-new new =
+      last
+      ∙ ap (members more) (keptAt-new more (length vs) (IsKept-snoc .1 new))
+      ∙ map-append (λ p. getD more p 0) (keptAt more (length vs)) (length vs ∷ [])
+      ∙ ap₂ (λ (cs : List ℕ) (c : ℕ). cs ++ (c ∷ [])) next-members next-at

@@ -6,27 +6,29 @@
 --   sum-trans, span-trans    sums of sums are sums
 --   sum-left, sum-right      sums of a part are sums of the whole
 --   independent-injective, injective-independent    independent: no two masks select one sum
+--   sum-append          a sum of two lists together is a sum of each
+--   independent-left    a list's beginning is independent if the list is
 --   independent-nil     the empty list is independent
 --   independent-snoc    a number that is no sum of an independent list leaves it independent
 --   independent-le      an independent list of sums of another is no longer than that one
 --   independent-width   an independent list of numbers of k bits has at most k members
 --   spanning-width      a list of which every number of k bits is a sum has at least k members
 --   independent-bijection, bijection-independent    n columns of n bits are independent exactly when their image is a bijection
-use Prim.Native.Nat.{ℕ, zero, suc, _+_, _*_, _/_, _%_, _^_, _≤_, _<_}
-use mathlib.Core.Path.{_≡_, refl, sym, ap, ap₂, _∙_}
-use mathlib.Core.List.{List, [], _∷_, _++_, map}
+use Prim.Native.Nat.{ℕ, zero, suc, _+_, _/_, _%_, _^_, _≤_, _<_}
+use mathlib.Core.Path.{_≡_, refl, sym, ap, _∙_}
+use mathlib.Core.List.{List, [], _∷_, _++_}
 use native.Mathlib.Omega.{arith}
-use native.Mathlib.Nat.{mod-lt, pow-suc, div-lt-iff-lt-mul}
+use native.Mathlib.Nat.{mod-lt, pow-suc, div-lt-iff-lt-mul, lt-of-lt-of-le}
 use native.Mathlib.Numerals.{add-one}
 use lib.Arith.{lt-one}
 use lib.Bits.{bitXor, xor-zero-r, xor-self, xor-lt}
 use lib.ListN.{length, getD, length-append, List·getD-append}
-use lib.Pow.{pow-pos, pow-lt, pow-mono, pow-add, high, low, split}
+use lib.Pow.{pow-pos, pow-mono, low}
 use lib.Seq.{getD-append-add}
 use Rattle.bits.specs.Image.{image, AllBelow, chosen}
-use Rattle.bits.proofs.XorLaws.{xor-cancel, xor-zero-eq}
-use Rattle.bits.proofs.ImageLaws.{image-zero, image-xor, image-unit, image-mod, image-append, image-lt, image-cons, image-nil, image-snoc}
-use Rattle.span.specs.Maps.{Into, Injective, Onto, Bijection}
+use Rattle.bits.proofs.XorLaws.{xor-zero-eq}
+use Rattle.bits.proofs.ImageLaws.{image-zero, image-xor, image-unit, image-mod, image-append, image-prefix, image-lt, image-cons, image-nil, image-snoc}
+use Rattle.span.specs.Maps.{Injective, Bijection}
 use Rattle.span.specs.Sums.{SumOf, Independent}
 use Rattle.span.proofs.Counting.{injective-width, onto-width, injective-bijection}
 
@@ -63,6 +65,12 @@ sum-left {cs} ds = span-trans {cs = cs} (λ j h. rw (List·getD-append cs ds 0 j
 pub sum-right : (cs : List ℕ) {ds : List ℕ} {v : ℕ} → SumOf ds v → SumOf (cs ++ ds) v
 sum-right cs {ds} = span-trans {cs = ds} (λ j h. rw (getD-append-add cs ds j 0) at (sum-member (cs ++ ds) (length cs + j)))
 
+pub sum-append : (cs ds : List ℕ) {v : ℕ} → SumOf (cs ++ ds) v → (w u : ℕ) × SumOf cs w × SumOf ds u × (bitXor w u ≡ v)
+sum-append cs ds s =
+    let m = s .selected in
+    let rest = m / 2 ^ length cs in
+    (image cs m, image ds rest, sum-image cs m, sum-image ds rest, sym (image-append cs ds m) ∙ s .sum)
+
 pub independent-injective : (cs : List ℕ) → Independent cs → Injective (image cs) (2 ^ length cs)
 independent-injective cs ind i j h k e =
     xor-zero-eq i j
@@ -73,6 +81,10 @@ injective-independent cs inj m h e = inj m 0 h (pow-pos (length cs)) (e ∙ sym 
 
 pub independent-nil : Independent []
 independent-nil m h e = lt-one h
+
+pub independent-left : (cs ds : List ℕ) → Independent (cs ++ ds) → Independent cs
+independent-left cs ds ind m h e =
+    ind m (lt-of-lt-of-le h (pow-mono (omega (arith, length-append cs ds)))) (image-prefix cs ds m h ∙ e)
 
 pub independent-snoc : (cs : List ℕ) (v : ℕ) → Independent cs → ¬ SumOf cs v → Independent (cs ++ (v ∷ []))
 independent-snoc cs v ind out m h e = go (m / 2 ^ length cs) refl

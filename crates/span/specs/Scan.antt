@@ -1,12 +1,15 @@
 -- The scan of a list, in order from the first number: keep a number that is no sum of kept ones (01, 'The planner's choices').
---   members vs ps      the numbers of vs at the positions ps
---   keptAt vs i        the positions kept among the first i numbers of vs, ascending
---   kept vs            the numbers kept
---   rank vs            how many are kept
---   Kept vs i          number i of vs is kept: it is no sum of those kept before it
---   units ps           2^p for each position p of ps
---   over ps m          the mask m over the positions ps, as a mask over all positions
---   mask vs i          which kept numbers, by their positions in vs, have number i of vs as their sum; a kept one is its own
+--   members vs ps        the numbers of vs at the positions ps
+--   keptAt vs i          the positions kept among the first i numbers of vs, ascending
+--   withNext d ps i      the positions ps, and i after them unless d says that number i is a sum
+--   SumBefore vs i       number i of vs is a sum of those kept before it
+--   IsKept vs i          it is none
+--   kept vs              the numbers kept
+--   rank vs              how many are kept
+--   units ps             2^p for each position p of ps
+--   over ps m            the mask m over the positions ps, as a mask over all positions
+--   mask vs i            which kept numbers, by their positions in vs, have number i of vs as their sum; a kept one is its own
+--   maskBy d ps i        that mask, where d has decided whether number i is a sum of those at ps
 use Prim.Native.Nat.{ℕ, zero, suc, _^_}
 use mathlib.Core.List.{List, [], _∷_, _++_, map}
 use lib.ListN.{length, getD}
@@ -25,6 +28,12 @@ unfolding sumOf?
 keptAt vs zero = []
 keptAt vs (suc i) = withNext (sumOf? (members vs (keptAt vs i)) (getD vs i 0)) (keptAt vs i) i
 
+abbrev pub SumBefore : List ℕ → ℕ → Type 0
+SumBefore vs i = SumOf (members vs (keptAt vs i)) (getD vs i 0)
+
+abbrev pub IsKept : List ℕ → ℕ → Type 0
+IsKept vs i = ¬ SumBefore vs i
+
 unfoldable pub kept : List ℕ → List ℕ
 unfolding keptAt
 kept vs = members vs (keptAt vs (length vs))
@@ -32,9 +41,6 @@ kept vs = members vs (keptAt vs (length vs))
 unfoldable pub rank : List ℕ → ℕ
 unfolding kept
 rank vs = length (kept vs)
-
-abbrev pub Kept : List ℕ → ℕ → Type 0
-Kept vs i = ¬ SumOf (members vs (keptAt vs i)) (getD vs i 0)
 
 abbrev pub units : List ℕ → List ℕ
 units ps = map (λ p. 2 ^ p) ps

@@ -7,14 +7,14 @@ use mathlib.Core.Bool.{true, false}
 use mathlib.Core.List.{List, [], _∷_, _++_}
 use mathlib.Core.Logic.{_↔_}
 use lib.ListN.{length}
-use Rattle.span.specs.Scan.{Kept, mask}
+use Rattle.span.specs.Scan.{IsKept, mask}
 use Rattle.span.specs.Held.{Holds}
 use Rattle.span.specs.declared.Scan.{Scan}
 use Rattle.span.specs.declared.Taken.{Taken}
 
 pub record Next (vs : List ℕ) (v : ℕ) (r : Taken) : Type 0 where
   pub holds : Holds (r .scan) (vs ++ (v ∷ []))
-  pub keeps : (r .kept ≡ true) ↔ Kept (vs ++ (v ∷ [])) (length vs)
+  pub keeps : (r .kept ≡ true) ↔ IsKept (vs ++ (v ∷ [])) (length vs)
   pub masked : r .mask ≡ mask (vs ++ (v ∷ [])) (length vs)
 
 pub record Takes (scan : Scan) (v : ℕ) (r : Taken) : Type 0 where

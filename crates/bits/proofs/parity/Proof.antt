@@ -3,7 +3,6 @@ use Prim.Native.Nat.{ℕ, _+_, _/_, _%_, _<_}
 use mathlib.Core.Path.{_≡_, sym, ap, _∙_}
 use native.Mathlib.Nat.{add-mod-mod, mod-add-mod, add-assoc}
 use native.Mathlib.Omega.{arith}
-use borrow.Author.Needs.{needs}
 use Rattle.bits.specs.Parity.{parity}
 use Rattle.bits.proofs.ParityLaws.{parity-lt, parity-zero, parity-step}
 use Rattle.bits.proofs.parity.Statement.{statement}

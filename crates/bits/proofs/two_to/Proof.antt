@@ -1,5 +1,4 @@
 -- `bits::two_to` meets its contract: 2^k is below 2^32, so the shift loses nothing.
-use Prim.Native.Nat.{_^_}
 use native.Mathlib.Omega.{arith}
 use borrow.Author.Needs.{needs}
 use lib.Pow.{pow-lt}

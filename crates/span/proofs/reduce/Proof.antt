@@ -1,12 +1,11 @@
 -- `span::reduce` meets its contract. The invariant: what was taken away is a sum of kept numbers, and the mask says which.
 -- A row that makes the rest smaller is there; where none does, a row with as many leading zeros would have.
 use Prim.Native.Nat.{ℕ, _≤_, _<_, _^_}
-use mathlib.Core.Path.{_≡_, refl, sym, ap, _∙_}
+use mathlib.Core.Path.{_≡_, ap}
 use mathlib.Core.List.{List}
 use mathlib.Core.Logic.{_≢_}
 use native.Mathlib.Decide.{ℕ-discrete}
 use native.Mathlib.Omega.{arith}
-use borrow.Author.Needs.{needs}
 use lib.Bits.{bitXor, xor-self, xor-zero-r}
 use lib.Count.{leadingZeros}
 use lib.ListN.{getD}

@@ -2,7 +2,6 @@
 use Prim.Native.Nat.{ℕ, _+_, _^_, _≤_, _<_}
 use mathlib.Core.Path.{_≡_, refl, ap, _∙_}
 use mathlib.Core.Bool.{false, true}
-use mathlib.Core.List.{List}
 use mathlib.Core.Logic.{_≢_}
 use native.Mathlib.Omega.{arith}
 use borrow.Author.Needs.{needs}
@@ -15,7 +14,7 @@ use Rattle.span.specs.declared.Scan.{Scan}
 use Rattle.span.specs.declared.Reduced.{Reduced}
 use Rattle.span.proofs.HeldLaws.{made-sum, echelon-old, mask-old, echelon-new, mask-new, kept-rest}
 use Rattle.span.proofs.LeadingLaws.{leading-lt}
-use Rattle.span.proofs.SnocLaws.{Kept-snoc}
+use Rattle.span.proofs.SnocLaws.{IsKept-snoc}
 use Rattle.span.proofs.SumLaws.{length-snoc}
 use Rattle.span.proofs.Scan.take.Statement.{statement}
 use Rattle.span.proofs.Scan.take.Tie as tie
@@ -34,7 +33,7 @@ module _ {scan : Scan} {v : ℕ} {r : Reduced} (fits : v < 2 ^ 16) (room : scan 
         let made : Made vs (r .mask) v = rw (ap (bitXor v) e ∙ xor-zero-r v) at (reduced .made vs (h .echelon)) in
         record {
           holds = record { counted = omega (arith, h .counted, length-snoc vs v); echelon = echelon-old fits (h .echelon) made };
-          keeps = (false≢true, λ k. absurd (Kept-snoc vs v .0 k (made-sum made)));
+          keeps = (false≢true, λ k. absurd (IsKept-snoc vs v .0 k (made-sum made)));
           masked = mask-old made;
         };
     full = λ full. absurd (omega arith);

@@ -1,0 +1,53 @@
+-- The sizes of an edition of the sheet (01, 'Orders, ticks and ports' and 'What a sheet holds').
+--   Edition        greatest n and k, most stages of a side, and places left over at a side's end
+--   edition1       01's sizes
+--   side e         places of one side: an address column for each bit of n, a wiring column for each of k, the count, two for a stage, those left over
+--   sheet e        places of a sheet: the write side, then the read side
+--   SizedN e n     n is within the sizes
+--   Sized e n k    n and k are
+--   sizedN?, sized?    whether they are
+use Prim.Native.Nat.{ℕ, _+_, _*_, _≤_, min}
+use native.Mathlib.Decide.{decLe}
+
+pub record Edition : Type 0 where
+  pub most-n : ℕ
+  pub most-k : ℕ
+  pub most-stages : ℕ
+  pub left-over : ℕ
+
+abbrev pub edition1 : Edition
+edition1 = record { most-n = 10; most-k = 5; most-stages = 8; left-over = 0 }
+
+abbrev pub side : Edition → ℕ
+side e = e .most-n + e .most-k + 1 + 2 * e .most-stages + e .left-over
+
+abbrev pub sheet : Edition → ℕ
+sheet e = 2 * side e
+
+pub record SizedN (e : Edition) (n : ℕ) : Type 0 where
+  pub least : 1 ≤ n
+  pub most : n ≤ e .most-n
+
+pub record Sized (e : Edition) (n k : ℕ) : Type 0 where
+  pub frame : SizedN e n
+  pub least : 1 ≤ k
+  pub most : k ≤ min n (e .most-k)
+
+unfoldable pub sizedN? : (e : Edition) (n : ℕ) → Dec (SizedN e n)
+unfolding decLe
+sizedN? e n = both (decLe 1 n) (decLe n (e .most-n))
+  where
+    both : Dec (1 ≤ n) → Dec (n ≤ e .most-n) → Dec (SizedN e n)
+    both (yes l) (yes m) = yes (record { least = l; most = m })
+    both (yes l) (no m) = no (λ s. m (s .most))
+    both (no l) m = no (λ s. l (s .least))
+
+unfoldable pub sized? : (e : Edition) (n k : ℕ) → Dec (Sized e n k)
+unfolding sizedN? decLe
+sized? e n k = all (sizedN? e n) (decLe 1 k) (decLe k (min n (e .most-k)))
+  where
+    all : Dec (SizedN e n) → Dec (1 ≤ k) → Dec (k ≤ min n (e .most-k)) → Dec (Sized e n k)
+    all (yes f) (yes l) (yes m) = yes (record { frame = f; least = l; most = m })
+    all (yes f) (yes l) (no m) = no (λ s. m (s .most))
+    all (yes f) (no l) m = no (λ s. l (s .least))
+    all (no f) l m = no (λ s. f (s .frame))

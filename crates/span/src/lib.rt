@@ -17,7 +17,7 @@ pub struct Taken {
     pub mask: u32,
 }
 
-// What is left of a number once kept rows are taken away, and the mask of those rows.
+// What is left of a number once rows are taken away, and which scanned numbers those rows are the sum of.
 struct Reduced {
     rest: u16,
     mask: u32,
@@ -52,9 +52,10 @@ impl Scan {
         let mask = reduced.mask;
         let rest = reduced.rest;
         if rest == 0 {
+            let kept = false;
             return Taken {
                 scan: self,
-                kept: false,
+                kept,
                 mask,
             };
         }
@@ -62,9 +63,10 @@ impl Scan {
         let z = u16::leading_zeros(rest) as usize;
         self.rows[z] = rest;
         self.masks[z] = mask ^ own;
+        let kept = true;
         Taken {
             scan: self,
-            kept: true,
+            kept,
             mask: own,
         }
     }

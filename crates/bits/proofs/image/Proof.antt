@@ -71,8 +71,7 @@ loop-less c = search needs
 loop-again : tie.Need-loop-again Inv-loop μ-loop
 loop-again c =
     let inv = c .before .before .loop .inv in
-    let test = c .before .loop-test .taken in
-    ⊎-elim (λ w. more-set (c .if1 .sum) inv test (w .0 .taken) (w .2)) (λ w. more-unset (c .if1 .sum) inv test (w .0 .left) (w .1)) (c .if1 .came)
+    ⊎-elim (λ w. more-set (c .if1 .sum) inv (omega arith) (w .0 .taken) (w .2)) (λ w. more-unset (c .if1 .sum) inv (omega arith) (w .0 .left) (w .1)) (c .if1 .came)
 
 returns : tie.Need-returns Inv-loop μ-loop
 returns c = done (c .before .loop .inv) (c .loop-test .left)

@@ -16,11 +16,9 @@ use Rattle.span.proofs.HeldLaws.{made-sum, echelon-old, mask-old, echel
 use Rattle.span.proofs.LeadingLaws.{leading-lt}
 use Rattle.span.proofs.SnocLaws.{IsKept-snoc}
 use Rattle.span.proofs.SumLaws.{length-snoc}
+use Rattle.span.proofs.TakeLaws.{false≢true}
 use Rattle.span.proofs.Scan.take.Statement.{statement}
 use Rattle.span.proofs.Scan.take.Tie as tie
-
-false≢true : {A : Type 0} → false ≡ true → A
-false≢true e = absurd (let z : _≡_ {A = ℕ} 0 1 = cc in omega arith)
 
 takes-full : {scan : Scan} {v : ℕ} → 32 ≤ scan .count → Takes scan v (record { scan = scan; kept = false; mask = 0 })
 takes-full full = record { next = λ vs h l. absurd (omega (arith, h .counted)); full = λ _. refl }

@@ -2,7 +2,7 @@
 --   made-zero, made-xor    masks over kept positions, and what they select, add up
 --   made-more              what a mask selects stays so when a number is added
 --   made-sum               what a mask over kept positions selects is a sum of kept numbers
---   row-narrow             a row has 16 bits
+--   row-narrow             a row has `width` bits
 --   echelon-none           no row, for the empty list
 --   echelon-old, mask-old  the same rows, for a number that they make up; its mask
 --   echelon-new, mask-new  the rest of a number that they don't make up is a row of its own; its mask
@@ -22,7 +22,7 @@ use Rattle.bits.proofs.XorLaws.{xor-assoc, xor-cancel, xor-cancel-right, xor-ze
 use Rattle.bits.proofs.ImageLaws.{below-append, below-one, image-nil, image-zero, image-xor, image-lt, image-prefix}
 use Rattle.span.specs.Sums.{SumOf}
 use Rattle.span.specs.Scan.{members, keptAt, kept, IsKept, units, mask}
-use Rattle.span.specs.Held.{Made, Echelon}
+use Rattle.span.specs.Held.{width, Made, Echelon}
 use Rattle.span.proofs.SumLaws.{length-snoc, sum-image, sum-zero, sum-xor}
 use Rattle.span.proofs.ScanLaws.{keptAt-below, keptAt-prefix, keptAt-more}
 use Rattle.span.proofs.MaskLaws.{image-over, over-below, mask-sum, mask-over, mask-unique, mask-kept}
@@ -39,10 +39,10 @@ made-xor {vs} {m} {n} a b = record {
   sum = image-xor vs m n ∙ ap₂ bitXor (a .sum) (b .sum);
 }
 
-pub row-narrow : {rows masks vs : List ℕ} → Echelon rows masks vs → (z : ℕ) → getD rows z 0 < 2 ^ 16
+pub row-narrow : {rows masks vs : List ℕ} → Echelon rows masks vs → (z : ℕ) → getD rows z 0 < 2 ^ width
 row-narrow {rows} {masks} {vs} h z = elim (ℕ-discrete (getD rows z 0) 0) [
   | yes e ↦ omega arith
-  | no there ↦ rw (h .sound z there .sum) at (image-lt 16 vs (h .narrow) (getD masks z 0))
+  | no there ↦ rw (h .sound z there .sum) at (image-lt width vs (h .narrow) (getD masks z 0))
 ]
 
 pub made-sum : {vs : List ℕ} {m w : ℕ} → Made vs m w → SumOf (kept vs) w
@@ -66,8 +66,8 @@ module _ (vs : List ℕ) (v : ℕ) where
         sum = image-prefix vs (v ∷ []) m low ∙ a .sum;
       }
 
-  narrow-more : v < 2 ^ 16 → AllBelow (2 ^ 16) vs → AllBelow (2 ^ 16) more
-  narrow-more h b = below-append (2 ^ 16) vs (v ∷ []) b (below-one (2 ^ 16) v h)
+  narrow-more : v < 2 ^ width → AllBelow (2 ^ width) vs → AllBelow (2 ^ width) more
+  narrow-more h b = below-append (2 ^ width) vs (v ∷ []) b (below-one (2 ^ width) v h)
 
   -- v as a member of the longer list, by its own mask
   made-own : Made more (mask more (length vs)) v
@@ -80,7 +80,7 @@ module _ (vs : List ℕ) (v : ℕ) where
   own-mask a =
       mask-unique more (length vs) (omega arith) (rw (length-snoc vs v) at (a .over-kept)) (a .sum ∙ sym (next-at vs v))
 
-pub echelon-none : (masks : List ℕ) → length masks ≡ 16 → Echelon (replicate 16 0) masks []
+pub echelon-none : (masks : List ℕ) → length masks ≡ width → Echelon (replicate width 0) masks []
 unfolding kept keptAt
 echelon-none masks m = record {
   row-places = refl;
@@ -91,13 +91,13 @@ echelon-none masks m = record {
   complete = λ w s n. absurd (n (sym (s .sum) ∙ image-nil (s .selected)));
 }
   where
-    zeros : (z : ℕ) → getD {A = ℕ} (replicate 16 0) z 0 ≡ 0
-    zeros z = elim (decLt z 16) [
-      | yes h ↦ getD-replicate 16 z 0 0 h
-      | no out ↦ List·getD-eq-default {A = ℕ} (replicate 16 0) 0 {n = z} (omega arith)
+    zeros : (z : ℕ) → getD {A = ℕ} (replicate width 0) z 0 ≡ 0
+    zeros z = elim (decLt z width) [
+      | yes h ↦ getD-replicate width z 0 0 h
+      | no out ↦ List·getD-eq-default {A = ℕ} (replicate width 0) 0 {n = z} (omega arith)
     ]
 
-pub echelon-old : {rows masks vs : List ℕ} {v m : ℕ} → v < 2 ^ 16 → Echelon rows masks vs → Made vs m v → Echelon rows masks (vs ++ (v ∷ []))
+pub echelon-old : {rows masks vs : List ℕ} {v m : ℕ} → v < 2 ^ width → Echelon rows masks vs → Made vs m v → Echelon rows masks (vs ++ (v ∷ []))
 echelon-old {vs = vs} {v} fits h a = record {
   row-places = h .row-places;
   mask-places = h .mask-places;
@@ -110,10 +110,10 @@ echelon-old {vs = vs} {v} fits h a = record {
 pub mask-old : {vs : List ℕ} {v m : ℕ} → Made vs m v → m ≡ mask (vs ++ (v ∷ [])) (length vs)
 mask-old {vs} {v} a = own-mask vs v (made-more vs v a)
 
-module _ {rows masks vs : List ℕ} (v : ℕ) {m rest own : ℕ} (fits : v < 2 ^ 16) (rest-fits : rest < 2 ^ 16) (h : Echelon rows masks vs)
-    (a : Made vs m (bitXor v rest)) (left : rest ≢ 0) (stuck : getD rows (leadingZeros 16 rest) 0 ≡ 0) (own-is : own ≡ 2 ^ length vs) where
+module _ {rows masks vs : List ℕ} (v : ℕ) {m rest own : ℕ} (fits : v < 2 ^ width) (rest-fits : rest < 2 ^ width) (h : Echelon rows masks vs)
+    (a : Made vs m (bitXor v rest)) (left : rest ≢ 0) (stuck : getD rows (leadingZeros width rest) 0 ≡ 0) (own-is : own ≡ 2 ^ length vs) where
   abbrev z : ℕ
-  z = leadingZeros 16 rest
+  z = leadingZeros width rest
 
   abbrev row : ℕ → ℕ
   row y = getD (set rows z rest) y 0
@@ -122,8 +122,8 @@ module _ {rows masks vs : List ℕ} (v : ℕ) {m rest own : ℕ} (fits : v < 2 ^
   new : ¬ SumOf (kept vs) v
   new s = h .complete rest (rw (xor-cancel v rest) at (sum-xor s (made-sum a))) left stuck
 
-  z-place : z < 16
-  z-place = leading-lt 16 rest rest-fits left
+  z-place : z < width
+  z-place = leading-lt width rest rest-fits left
 
   row-at : row z ≡ rest
   row-at = getD-set-same rows z rest 0 (omega (arith, z-place, h .row-places))
@@ -142,9 +142,9 @@ module _ {rows masks vs : List ℕ} (v : ℕ) {m rest own : ℕ} (fits : v < 2 ^
       let by-own : Made (vs ++ (v ∷ [])) own v = rw mask-new (made-own vs v) in
       rw (ap (λ (x : ℕ). bitXor x v) (xor-comm v rest) ∙ xor-cancel-right rest v) at (made-xor (made-more vs v a) by-own)
 
-  leading-new : (y : ℕ) → row y ≢ 0 → leadingZeros 16 (row y) ≡ y
+  leading-new : (y : ℕ) → row y ≢ 0 → leadingZeros width (row y) ≡ y
   leading-new y there = elim (ℕ-discrete y z) [
-    | yes e ↦ ap (λ (x : ℕ). leadingZeros 16 (row x)) e ∙ ap (leadingZeros 16) row-at ∙ sym e
+    | yes e ↦ ap (λ (x : ℕ). leadingZeros width (row x)) e ∙ ap (leadingZeros width) row-at ∙ sym e
     | no n ↦ rw (row-other y n) (h .leading y (λ e. there (row-other y n ∙ e)))
   ]
 
@@ -163,39 +163,39 @@ module _ {rows masks vs : List ℕ} (v : ℕ) {m rest own : ℕ} (fits : v < 2 ^
   there-old y there = elim (ℕ-discrete y z) [ yes e ↦ there-new y e | no n ↦ rw (row-other y n) there ]
 
   -- w less the rest is a sum of those kept before: it is 0, or begins where another row does, above z or below
-  complete-rest : (w : ℕ) → w ≢ 0 → SumOf (kept vs) (bitXor rest w) → row (leadingZeros 16 w) ≢ 0
+  complete-rest : (w : ℕ) → w ≢ 0 → SumOf (kept vs) (bitXor rest w) → row (leadingZeros width w) ≢ 0
   complete-rest w n s = elim (ℕ-discrete (bitXor rest w) 0) [
-    | yes e ↦ there-new (leadingZeros 16 w) (ap (leadingZeros 16) (sym (xor-zero-eq rest w e)))
+    | yes e ↦ there-new (leadingZeros width w) (ap (leadingZeros width) (sym (xor-zero-eq rest w e)))
     | no d ↦ beside (h .complete (bitXor rest w) s d)
   ]
     where
       u : ℕ
       u = bitXor rest w
 
-      u-narrow : u < 2 ^ 16
-      u-narrow = rw (s .sum) at (image-lt 16 (kept vs) (kept-all-below (2 ^ 16) vs (h .narrow)) (s .selected))
+      u-narrow : u < 2 ^ width
+      u-narrow = rw (s .sum) at (image-lt width (kept vs) (kept-all-below (2 ^ width) vs (h .narrow)) (s .selected))
 
-      above : leadingZeros 16 u < z → leadingZeros 16 w ≡ leadingZeros 16 u
-      above l = ap (leadingZeros 16) (sym (xor-comm u rest ∙ xor-cancel rest w)) ∙ leading-xor 16 u rest u-narrow rest-fits l
+      above : leadingZeros width u < z → leadingZeros width w ≡ leadingZeros width u
+      above l = ap (leadingZeros width) (sym (xor-comm u rest ∙ xor-cancel rest w)) ∙ leading-xor width u rest u-narrow rest-fits l
 
-      below : z < leadingZeros 16 u → leadingZeros 16 w ≡ z
-      below l = ap (leadingZeros 16) (sym (xor-cancel rest w)) ∙ leading-xor 16 rest u rest-fits u-narrow l
+      below : z < leadingZeros width u → leadingZeros width w ≡ z
+      below l = ap (leadingZeros width) (sym (xor-cancel rest w)) ∙ leading-xor width rest u rest-fits u-narrow l
 
-      beside : getD rows (leadingZeros 16 u) 0 ≢ 0 → row (leadingZeros 16 w) ≢ 0
-      beside there = elim (decLt (leadingZeros 16 u) z) [
-        | yes l ↦ rw (above l) (there-old (leadingZeros 16 u) there)
-        | no n ↦ let apart : leadingZeros 16 u ≢ z = λ e. there (ap (λ (y : ℕ). getD rows y 0) e ∙ stuck) in
-            there-new (leadingZeros 16 w) (below (omega arith))
+      beside : getD rows (leadingZeros width u) 0 ≢ 0 → row (leadingZeros width w) ≢ 0
+      beside there = elim (decLt (leadingZeros width u) z) [
+        | yes l ↦ rw (above l) (there-old (leadingZeros width u) there)
+        | no n ↦ let apart : leadingZeros width u ≢ z = λ e. there (ap (λ (y : ℕ). getD rows y 0) e ∙ stuck) in
+            there-new (leadingZeros width w) (below (omega arith))
       ]
 
-  complete-new : (w : ℕ) → SumOf (kept (vs ++ (v ∷ []))) w → w ≢ 0 → row (leadingZeros 16 w) ≢ 0
+  complete-new : (w : ℕ) → SumOf (kept (vs ++ (v ∷ []))) w → w ≢ 0 → row (leadingZeros width w) ≢ 0
   complete-new w s n = go (sum-snoc (kept vs) v w (rw (kept-new vs v new) at s))
     where
       rest-for-v : bitXor (bitXor w v) (bitXor v rest) ≡ bitXor rest w
       rest-for-v = xor-assoc w v (bitXor v rest) ∙ ap (bitXor w) (xor-cancel v rest) ∙ xor-comm w rest
 
-      go : SumOf (kept vs) w ⊎ SumOf (kept vs) (bitXor w v) → row (leadingZeros 16 w) ≢ 0
-      go (inl old) = there-old (leadingZeros 16 w) (h .complete w old n)
+      go : SumOf (kept vs) w ⊎ SumOf (kept vs) (bitXor w v) → row (leadingZeros width w) ≢ 0
+      go (inl old) = there-old (leadingZeros width w) (h .complete w old n)
       go (inr less-v) = complete-rest w n (rw rest-for-v at (sum-xor less-v (made-sum a)))
 
   pub echelon-new : Echelon (set rows z rest) (set masks z (bitXor m own)) (vs ++ (v ∷ []))

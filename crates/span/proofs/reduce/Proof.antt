@@ -10,22 +10,22 @@ use lib.Bits.{bitXor, xor-self, xor-zero-r}
 use lib.Count.{leadingZeros}
 use lib.ListN.{getD}
 use Rattle.bits.proofs.XorLaws.{xor-assoc}
-use Rattle.span.specs.Held.{Made, Echelon, Reduces}
+use Rattle.span.specs.Held.{width, Made, Echelon, Reduces}
 use Rattle.span.proofs.HeldLaws.{made-zero, made-xor, row-narrow}
 use Rattle.span.proofs.LeadingLaws.{leading-lt, leading-falls}
 use Rattle.span.proofs.reduce.Statement.{statement}
 use Rattle.span.proofs.reduce.Tie as tie
 
 record Reducing (rows masks : List ℕ) (v rest mask : ℕ) : Type 0 where
-  narrow : rest < 2 ^ 16
+  narrow : rest < 2 ^ width
   made : (vs : List ℕ) → Echelon rows masks vs → Made vs mask (bitXor v rest)
 
-start : {rows masks : List ℕ} {v : ℕ} → v < 2 ^ 16 → Reducing rows masks v v 0
+start : {rows masks : List ℕ} {v : ℕ} → v < 2 ^ width → Reducing rows masks v v 0
 start {v = v} fits = record { narrow = fits; made = λ vs h. rw (xor-self v) (made-zero vs) }
 
 module _ {rows masks : List ℕ} {v rest mask : ℕ} (i : Reducing rows masks v rest mask) where
   abbrev z : ℕ
-  z = leadingZeros 16 rest
+  z = leadingZeros width rest
 
   more : bitXor rest (getD rows z 0) < rest → Reducing rows masks v (bitXor rest (getD rows z 0)) (bitXor mask (getD masks z 0))
   more less = record {
@@ -42,15 +42,15 @@ module _ {rows masks : List ℕ} {v rest mask : ℕ} (i : Reducing rows masks v 
     made = i .made;
     stuck = λ vs h n. elim (ℕ-discrete (getD rows z 0) 0) [
       | yes e ↦ e
-      | no there ↦ absurd (omega (arith, leading-falls 16 rest (getD rows z 0) (i .narrow) (row-narrow h z) n (h .leading z there)))
+      | no there ↦ absurd (omega (arith, leading-falls width rest (getD rows z 0) (i .narrow) (row-narrow h z) n (h .leading z there)))
     ];
   }
 
   done : rest ≡ 0 → Reduces rows masks v (record { rest = rest; mask = mask })
   done e = record { narrow = i .narrow; made = i .made; stuck = λ vs h n. absurd (n e) }
 
-  index : rest ≢ 0 → z < 16
-  index = leading-lt 16 rest (i .narrow)
+  index : rest ≢ 0 → z < width
+  index = leading-lt width rest (i .narrow)
 
 abbrev Inv-loop : tie.InvT-loop
 Inv-loop rows masks v rest₀ mask₀ rest mask = Reducing rows masks v rest mask

@@ -8,8 +8,8 @@ use borrow.Author.Needs.{needs}
 use lib.Bits.{bitXor, xor-zero-r}
 use lib.Count.{leadingZeros}
 use lib.ListN.{set}
-use Rattle.span.specs.Held.{Made, Reduces}
-use Rattle.span.specs.Take.{Takes}
+use Rattle.span.specs.Held.{width, Made, Reduces}
+use Rattle.span.specs.Take.{room, Takes}
 use Rattle.span.specs.declared.Scan.{Scan}
 use Rattle.span.specs.declared.Reduced.{Reduced}
 use Rattle.span.proofs.HeldLaws.{made-sum, echelon-old, mask-old, echelon-new, mask-new, kept-rest}
@@ -20,10 +20,10 @@ use Rattle.span.proofs.TakeLaws.{false≢true}
 use Rattle.span.proofs.Scan.take.Statement.{statement}
 use Rattle.span.proofs.Scan.take.Tie as tie
 
-takes-full : {scan : Scan} {v : ℕ} → 32 ≤ scan .count → Takes scan v (record { scan = scan; kept = false; mask = 0 })
+takes-full : {scan : Scan} {v : ℕ} → room ≤ scan .count → Takes scan v (record { scan = scan; kept = false; mask = 0 })
 takes-full full = record { next = λ vs h l. absurd (omega (arith, h .counted)); full = λ _. refl }
 
-module _ {scan : Scan} {v : ℕ} {r : Reduced} (fits : v < 2 ^ 16) (room : scan .count < 32) (reduced : Reduces (scan .rows) (scan .masks) v r) where
+module _ {scan : Scan} {v : ℕ} {r : Reduced} (fits : v < 2 ^ width) (room : scan .count < room) (reduced : Reduces (scan .rows) (scan .masks) v r) where
   takes-old : r .rest ≡ 0
       → Takes scan v (record { scan = record { rows = scan .rows; masks = scan .masks; count = scan .count + 1 }; kept = false; mask = r .mask })
   takes-old e = record {
@@ -40,8 +40,8 @@ module _ {scan : Scan} {v : ℕ} {r : Reduced} (fits : v < 2 ^ 16) (room : scan 
   takes-new : {own : ℕ} → r .rest ≢ 0 → own ≡ 2 ^ scan .count
       → Takes scan v (record {
         scan = record {
-          rows = set (scan .rows) (leadingZeros 16 (r .rest)) (r .rest);
-          masks = set (scan .masks) (leadingZeros 16 (r .rest)) (bitXor (r .mask) own);
+          rows = set (scan .rows) (leadingZeros width (r .rest)) (r .rest);
+          masks = set (scan .masks) (leadingZeros width (r .rest)) (bitXor (r .mask) own);
           count = scan .count + 1;
         };
         kept = true;
@@ -63,8 +63,8 @@ module _ {scan : Scan} {v : ℕ} {r : Reduced} (fits : v < 2 ^ 16) (room : scan 
     full = λ full. absurd (omega arith);
   }
 
-  index : r .rest ≢ 0 → leadingZeros 16 (r .rest) < 16
-  index = leading-lt 16 (r .rest) (reduced .narrow)
+  index : r .rest ≢ 0 → leadingZeros width (r .rest) < width
+  index = leading-lt width (r .rest) (reduced .narrow)
 
 returns : tie.Need-returns
 returns c = takes-full (c .if1 .taken)
@@ -83,7 +83,7 @@ returns-2 c =
 two-to-requires : tie.Need-two-to-requires
 two-to-requires c κs = search needs
 
-place : (c : tie.After-two-to) → leadingZeros 16 (c .before .before .reduce .result .rest) < 16
+place : (c : tie.After-two-to) → leadingZeros width (c .before .before .reduce .result .rest) < width
 place c =
     let start = c .before .before .before .before .before .before .before in
     index (start .fits .v .fits) (c .before .before .before .before .before .before .if1 .left) (c .before .before .reduce .ensures) (c .before .if2 .left)

@@ -1,15 +1,17 @@
 -- Leading zeros and exclusive or, for numbers of k bits.
 --   leading-lt        a number that is not 0 has fewer than k leading zeros
 --   leading-falls     two numbers with the same leading zeros: their exclusive or is smaller
+--   leading-high      leading zeros are those of the upper bits, unless these are 0
 --   leading-xor       the number with fewer leading zeros decides those of an exclusive or
-use Prim.Native.Nat.{ℕ, zero, suc, _+_, _*_, _-_, _^_, _<_}
+use Prim.Native.Nat.{ℕ, zero, suc, _+_, _*_, _-_, _/_, _^_, _≤_, _<_}
 use mathlib.Core.Path.{_≡_, sym, ap, ap₂, _∙_}
 use mathlib.Core.Logic.{_≢_}
+use native.Mathlib.Decide.{decLt}
 use native.Mathlib.Omega.{arith}
 use native.Mathlib.Nat.{pow-suc, lt-of-lt-of-le}
 use lib.Bits.{bitXor, xor-block, xor-lt}
 use lib.Count.{leadingZeros, leading-top, leading-unique, leading-length, leading-of-zero}
-use lib.Pow.{pow-mono}
+use lib.Pow.{pow-pos, pow-mono, pow-add, shr-lt, shr-mono, shl-shr}
 
 -- a number with fewer than k leading zeros is its highest bit and a rest
 top : (k a : ℕ) → a < 2 ^ k → leadingZeros k a < k
@@ -52,3 +54,14 @@ leading-xor k a b ha hb l =
     let split : bitXor a b ≡ 2 ^ t .0 + bitXor (t .2) b = ap (λ (x : ℕ). bitXor x b) (t .4) ∙ top-stays (t .0) (t .2) b (t .3) short in
     let low : bitXor (t .2) b < 2 ^ t .0 = xor-lt (t .0) (t .2) b (t .3) short in
     sym (leading-unique k (bitXor a b) (leadingZeros k a) (suc (t .0)) (t .1) (omega (arith, split, pow-suc 2 (t .0))) (omega (arith, split, pow-suc 2 (t .0))))
+
+pub leading-high : (k j a : ℕ) → a < 2 ^ (k + j) → 2 ^ j ≤ a → leadingZeros (k + j) a ≡ leadingZeros k (a / 2 ^ j)
+leading-high k j a h l =
+    let t = leading-top (k + j) a (omega (arith, pow-pos j)) h in
+    let reach : j < suc (t .0) = elim (decLt j (suc (t .0))) [ yes r ↦ r | no n ↦ absurd (omega (arith, t .3, pow-mono {i = suc (t .0)} {j = j} (omega arith))) ] in
+    let d : ℕ = t .0 - j in
+    let sum : suc (t .0) ≡ suc d + j = omega arith in
+    let above : a / 2 ^ j < 2 ^ suc d = shr-lt (suc d) j (rw (sum) at (t .3)) in
+    let whole : t .0 ≡ d + j = omega arith in
+    let below : 2 ^ d ≤ a / 2 ^ j = rw (shl-shr (2 ^ d) j) at (shr-mono j (rw (whole, pow-add 2 d j) at (t .2))) in
+    leading-unique k (a / 2 ^ j) (leadingZeros (k + j) a) (suc d) (omega (arith, t .1, reach)) above (omega (arith, pow-suc 2 d, below))

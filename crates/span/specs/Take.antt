@@ -14,7 +14,7 @@ use Rattle.span.specs.declared.Scan.{Scan}
 use Rattle.span.specs.declared.Taken.{Taken}
 
 abbrev pub room : ℕ
-room = 32
+room = 16
 
 pub record Next (vs : List ℕ) (v : ℕ) (r : Taken) : Type 0 where
   pub holds : Holds (r .scan) (vs ++ (v ∷ []))

@@ -3,11 +3,10 @@ ghost use Rattle.span.specs.Held.{Holds, Reduces};
 ghost use Rattle.span.specs.Take.{Takes};
 ghost use mathlib.Core.List.{[]};
 
-// What a scan has kept, in echelon form: the row with z leading zeros stands at z, and
-// masks[z] says which of the scanned numbers it is the sum of. count numbers were scanned.
+// What a scan has kept, in echelon form. An entry is a row in its upper 16 bits, and in its lower 16 the mask that says which
+// of the scanned numbers the row is the sum of. The row with z leading zeros stands at z; 0 is no entry.
 pub struct Scan {
-    rows: [u16; 16],
-    masks: [u32; 16],
+    entries: [u32; 16],
     count: u32,
 }
 
@@ -17,20 +16,13 @@ pub struct Taken {
     pub mask: u32,
 }
 
-// What is left of a number once rows are taken away, and which scanned numbers those rows are the sum of.
-struct Reduced {
-    rest: u16,
-    mask: u32,
-}
-
 impl Scan {
     // Nothing scanned yet.
     pub fn new() -> Self
         ensures { λ r. ⌜ Holds r [] ⌝ }
     {
         Scan {
-            rows: [0; 16],
-            masks: [0; 16],
+            entries: [0; 16],
             count: 0,
         }
     }
@@ -40,7 +32,7 @@ impl Scan {
         ensures { λ r. ⌜ Takes self v r ⌝ }
     {
         let count = self.count;
-        if 32 <= count {
+        if 16 <= count {
             return Taken {
                 scan: self,
                 kept: false,
@@ -48,21 +40,19 @@ impl Scan {
             };
         }
         self.count = count + 1;
-        let reduced = reduce(&self.rows, &self.masks, v);
-        let mask = reduced.mask;
-        let rest = reduced.rest;
-        if rest == 0 {
+        let entry = (v as u32) * 65536;
+        let left = reduce(&self.entries, entry);
+        if left < 65536 {
             let kept = false;
             return Taken {
                 scan: self,
                 kept,
-                mask,
+                mask: left,
             };
         }
         let own = bits::two_to(count);
-        let z = u16::leading_zeros(rest) as usize;
-        self.rows[z] = rest;
-        self.masks[z] = mask ^ own;
+        let z = u32::leading_zeros(left) as usize;
+        self.entries[z] = left ^ own;
         let kept = true;
         Taken {
             scan: self,
@@ -72,20 +62,18 @@ impl Scan {
     }
 }
 
-// Takes away the row with as many leading zeros, as long as there is one: what is left is then smaller.
-fn reduce<'a>(rows: &'a [u16; 16], masks: &'a [u32; 16], v: u16) -> Reduced
-    ensures { λ r. ⌜ Reduces (now (rows .entry)) (now (masks .entry)) v r ⌝ }
+// Takes away the entry with as many leading zeros, as long as there is one: what is left is then smaller.
+fn reduce(entries: &[u32; 16], entry: u32) -> u32
+    ensures { λ r. ⌜ Reduces (now (entries .entry)) entry r ⌝ }
 {
-    let mut rest = v;
-    let mut mask = 0;
-    while rest != 0 {
-        let at = u16::leading_zeros(rest) as usize;
-        let less = rest ^ rows[at];
-        if rest <= less {
-            return Reduced { rest, mask };
+    let mut left = entry;
+    while 65536 <= left {
+        let at = u32::leading_zeros(left) as usize;
+        let less = left ^ entries[at];
+        if left <= less {
+            return left;
         }
-        rest = less;
-        mask = mask ^ masks[at];
+        left = less;
     }
-    Reduced { rest, mask }
+    left
 }

@@ -1,24 +1,25 @@
 -- What a caller of `take` reads off its promise.
 --   false≢true     anything follows from it
---   next-sum       a number that was not kept is a sum of those kept before it
 --   next-unique    two right answers say the same
-use Prim.Native.Nat.{ℕ}
-use mathlib.Core.Path.{_≡_, refl, sym, _∙_}
+--   TakenAt, take-at    the numbers of a list taken in order: what the answer says of number j of the list
+use Prim.Native.Nat.{ℕ, suc, _+_, _<_}
+use mathlib.Core.Path.{_≡_, refl, sym, ap, ap₂, _∙_}
 use mathlib.Core.Bool.{Bool, true, false}
 use mathlib.Core.List.{List, [], _∷_, _++_}
 use mathlib.Core.Logic.{_↔_, ⊎-elim}
+use native.Mathlib.Numerals.{add-one}
 use native.Mathlib.Omega.{arith}
-use lib.ListN.{length}
-use Rattle.span.specs.Scan.{SumBefore}
-use Rattle.span.specs.Take.{Next}
+use lib.ListN.{length, getD, take, drop, take-append-drop, length-take}
+use lib.Seq.{take-suc, length-take-le}
+use Rattle.span.specs.Scan.{SumBefore, IsKept, mask}
+use Rattle.span.specs.Held.{Holds}
+use Rattle.span.specs.Take.{room, Next, Takes}
+use Rattle.span.specs.declared.Scan.{Scan}
 use Rattle.span.specs.declared.Taken.{Taken}
-use Rattle.span.proofs.ScanLaws.{kept-or-sum}
+use Rattle.span.proofs.ScanLaws.{kept-or-sum, IsKept-prefix, mask-prefix}
 
 pub false≢true : {A : Type 0} → false ≡ true → A
 false≢true e = absurd (let z : _≡_ {A = ℕ} 0 1 = cc in omega arith)
-
-pub next-sum : {vs : List ℕ} {v : ℕ} {r : Taken} → Next vs v r → r .kept ≡ false → SumBefore (vs ++ (v ∷ [])) (length vs)
-next-sum {vs} {v} n e = ⊎-elim (λ k. false≢true (sym e ∙ n .keeps .1 k)) (λ s. s) (kept-or-sum (vs ++ (v ∷ [])) (length vs))
 
 pub next-unique : {vs : List ℕ} {v : ℕ} {r q : Taken} → Next vs v r → Next vs v q → (r .kept ≡ q .kept) × (r .mask ≡ q .mask)
 next-unique {r = r} {q} n m = (same (r .kept) (q .kept) (n .keeps) (m .keeps), n .masked ∙ sym (m .masked))
@@ -28,3 +29,36 @@ next-unique {r = r} {q} n m = (same (r .kept) (q .kept) (n .keeps) (m .keeps), n
     same true false p o = sym (o .1 (p .0 refl))
     same false true p o = p .1 (o .0 refl)
     same false false p o = refl
+
+pub record TakenAt (cs : List ℕ) (j : ℕ) (r : Taken) : Type 0 where
+  pub holds : Holds (r .scan) (take (j + 1) cs)
+  pub keeps : (r .kept ≡ true) ↔ IsKept cs j
+  pub sums : r .kept ≡ false → SumBefore cs j
+  pub masked : r .mask ≡ mask cs j
+
+pub take-at : {cs : List ℕ} {j : ℕ} {scan : Scan} {r : Taken} → j < length cs → j < room → Holds scan (take j cs)
+    → Takes scan (getD cs j 0) r → TakenAt cs j r
+take-at {cs} {j} {scan} {r} inside free h t = record {
+  holds = rw (add-one, take-suc cs j 0) (n .holds);
+  keeps = (λ e. prefix .0 (rw (joined, here) at (n .keeps .0 e)), λ k. n .keeps .1 (rw (joined, here) (prefix .1 k)));
+  sums = λ e. ⊎-elim (λ k. false≢true (sym e ∙ n .keeps .1 (rw (joined, here) (prefix .1 k)))) (λ s. s) (kept-or-sum cs j);
+  masked = n .masked ∙ ap₂ mask joined here ∙ sym (mask-prefix (take (suc j) cs) (drop (suc j) cs) j reach) ∙ ap (λ (l : List ℕ). mask l j) whole;
+}
+  where
+    n : Next (take j cs) (getD cs j 0) r
+    n = t .next (take j cs) h (omega (arith, length-take j cs))
+
+    joined : take j cs ++ (getD cs j 0 ∷ []) ≡ take (suc j) cs
+    joined = sym (take-suc cs j 0 inside)
+
+    here : length (take j cs) ≡ j
+    here = length-take-le j cs (omega arith)
+
+    whole : take (suc j) cs ++ drop (suc j) cs ≡ cs
+    whole = take-append-drop (suc j) cs
+
+    reach : j < length (take (suc j) cs)
+    reach = omega (arith, length-take (suc j) cs)
+
+    prefix : IsKept (take (suc j) cs) j ↔ IsKept cs j
+    prefix = let p = IsKept-prefix (take (suc j) cs) (drop (suc j) cs) j reach in (λ k. rw whole at (p .1 k), λ k. p .0 (rw whole k))

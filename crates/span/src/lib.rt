@@ -32,32 +32,25 @@ impl Scan {
         ensures { λ r. ⌜ Takes self v r ⌝ }
     {
         let count = self.count;
-        if 16 <= count {
-            return Taken {
-                scan: self,
-                kept: false,
-                mask: 0,
-            };
+        let mut kept = false;
+        let mut mask = 0;
+        if count < 16 {
+            self.count = count + 1;
+            let entry = (v as u32) * 65536;
+            let left = reduce(&self.entries, entry);
+            mask = left;
+            if 65536 <= left {
+                let own = bits::two_to(count);
+                let z = u32::leading_zeros(left) as usize;
+                self.entries[z] = left ^ own;
+                kept = true;
+                mask = own;
+            }
         }
-        self.count = count + 1;
-        let entry = (v as u32) * 65536;
-        let left = reduce(&self.entries, entry);
-        if left < 65536 {
-            let kept = false;
-            return Taken {
-                scan: self,
-                kept,
-                mask: left,
-            };
-        }
-        let own = bits::two_to(count);
-        let z = u32::leading_zeros(left) as usize;
-        self.entries[z] = left ^ own;
-        let kept = true;
         Taken {
             scan: self,
             kept,
-            mask: own,
+            mask,
         }
     }
 }

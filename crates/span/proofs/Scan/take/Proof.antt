@@ -56,9 +56,6 @@ module _ {scan : Scan} {v left : ℕ} (fits : v < 2 ^ width) (free : scan .count
     full = λ full. absurd (omega arith);
   }
 
-returns : tie.Need-returns
-returns c = takes-full (c .if1 .taken)
-
 add-self : tie.Need-add-self
 add-self c = search needs
 
@@ -68,16 +65,11 @@ mul-entry c = search needs
 reduce-requires : tie.Need-reduce-requires
 reduce-requires c κs = search needs
 
-returns-2 : tie.Need-returns-2
-returns-2 c =
-    let start = c .before .before .before .before .before in
-    takes-old (start .fits .v .fits) (c .before .before .before .before .if1 .left) (c .before .reduce .ensures) (c .if2 .taken)
-
 two-to-requires : tie.Need-two-to-requires
 two-to-requires c κs = search needs
 
 place : (c : tie.After-two-to) → leadingZeros (width + width) (c .before .before .reduce .result) < width
-place c = row-place (omega (arith, c .before .before .reduce .ok)) (c .before .if2 .left)
+place c = row-place (omega (arith, c .before .before .reduce .ok)) (c .before .if2 .taken)
 
 cast-z : tie.Need-cast-z
 cast-z c = omega (arith, place c)
@@ -88,23 +80,31 @@ mul-self c = omega (arith, place c)
 element-write-self : tie.Need-element-write-self
 element-write-self c = place c
 
-returns-3 : tie.Need-returns-3
-returns-3 c =
+returns : tie.Need-returns
+returns c =
     let start = c .before .before .before .before .before .before in
-    takes-new (start .fits .v .fits) (c .before .before .before .before .before .if1 .left) (c .before .before .reduce .ensures)
-    (omega (arith, c .before .before .reduce .ok)) (c .before .if2 .left) (c .two-to .ensures)
+    takes-new (start .fits .v .fits) (c .before .before .before .before .before .if1 .taken) (c .before .before .reduce .ensures)
+    (omega (arith, c .before .before .reduce .ok)) (c .before .if2 .taken) (c .two-to .ensures)
+
+returns-2 : tie.Need-returns-2
+returns-2 c =
+    let start = c .before .before .before .before .before in
+    takes-old (start .fits .v .fits) (c .before .before .before .before .if1 .taken) (c .before .reduce .ensures) (c .if2 .left)
+
+returns-3 : tie.Need-returns-3
+returns-3 c = takes-full (c .if1 .left)
 
 pub take-spec : {M : Type 1} → statement M
 take-spec =
     tie.close
     (tie.spec
-    returns
     add-self
     mul-entry
     reduce-requires
-    returns-2
     two-to-requires
     cast-z
     mul-self
     element-write-self
+    returns
+    returns-2
     returns-3)

@@ -28,11 +28,11 @@ use Rattle.bits.proofs.ImageLaws.{below-append, below-one, image-nil, image-zer
 use Rattle.span.specs.Sums.{SumOf}
 use Rattle.span.specs.Scan.{members, keptAt, kept, IsKept, units, mask}
 use Rattle.span.specs.Held.{width, entry, rowOf, maskOf, Made, Echelon}
-use Rattle.span.proofs.SumLaws.{length-snoc, sum-image, sum-zero, sum-xor}
+use Rattle.span.proofs.SumLaws.{length-snoc, sum-image, sum-zero, sum-xor, sum-snoc}
 use Rattle.span.proofs.ScanLaws.{keptAt-below, keptAt-prefix, keptAt-more}
 use Rattle.span.proofs.MaskLaws.{image-over, over-below, mask-sum, mask-over, mask-unique, mask-kept}
 use Rattle.span.proofs.RankLaws.{kept-all-below}
-use Rattle.span.proofs.SnocLaws.{next-at, IsKept-snoc, kept-old, kept-new, sum-snoc}
+use Rattle.span.proofs.SnocLaws.{next-at, IsKept-snoc, kept-old, kept-new}
 use Rattle.span.proofs.LeadingLaws.{leading-lt, leading-falls, leading-high, leading-xor}
 
 pub made-zero : (vs : List ℕ) → Made vs 0

@@ -42,8 +42,8 @@ leading-falls k a b ha hb n e =
     let s = top k b hb (omega arith) in
     let same : s .0 ≡ t .0 = omega (arith, s .1, t .1) in
     let short : s .2 < 2 ^ t .0 = rw same at (s .3) in
-    let split : bitXor a b ≡ bitXor (t .2) (s .2)
-    = ap₂ bitXor (t .4) (s .4 ∙ ap (λ (j : ℕ). 2 ^ j + s .2) same) ∙ tops-cancel (t .0) (t .2) (s .2) (t .3) short in
+    let b-top : b ≡ 2 ^ t .0 + s .2 = s .4 ∙ ap (λ (j : ℕ). 2 ^ j + s .2) same in
+    let split : bitXor a b ≡ bitXor (t .2) (s .2) = ap₂ bitXor (t .4) b-top ∙ tops-cancel (t .0) (t .2) (s .2) (t .3) short in
     omega (arith, split, xor-lt (t .0) (t .2) (s .2) (t .3) short, t .4)
 
 pub leading-xor : (k a b : ℕ) → a < 2 ^ k → b < 2 ^ k → leadingZeros k a < leadingZeros k b → leadingZeros k (bitXor a b) ≡ leadingZeros k a

@@ -71,8 +71,8 @@ unfolding rank kept
 rank-independent vs full m h e =
     let found = injective-onto (λ s k. over-below (length vs) ps (keptAt-below vs (length vs)) s) over-injective m h in
     let s = found .0 in
-    let zero-mask : s ≡ 0
-    = kept-independent vs (length vs) s (rw full (found .1)) (sym (image-over vs ps s) ∙ ap (image vs) (found .2) ∙ e) in
+    let none : image (members vs ps) s ≡ 0 = sym (image-over vs ps s) ∙ ap (image vs) (found .2) ∙ e in
+    let zero-mask : s ≡ 0 = kept-independent vs (length vs) s (rw full (found .1)) none in
     sym (found .2) ∙ ap (over ps) zero-mask ∙ image-zero (units ps)
   where
     ps : List ℕ

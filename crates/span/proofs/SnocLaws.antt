@@ -3,36 +3,18 @@
 --   next-members    it is scanned after the numbers kept of vs
 --   kept-old        if v is a sum of those kept, the same are kept
 --   kept-new        if not, v is kept after them
---   sum-snoc        a sum of a list with v added is a sum of the list, or one with v taken away
 --   SumBefore-snoc, IsKept-snoc    v is a sum of those kept before it, or kept, as it is a sum of those kept of vs or not
-use Prim.Native.Nat.{ℕ, suc, _/_, _%_, _^_}
-use mathlib.Core.Path.{_≡_, sym, ap, ap₂, _∙_}
+use Prim.Native.Nat.{ℕ, suc}
+use mathlib.Core.Path.{_≡_, ap, ap₂, _∙_}
 use mathlib.Core.List.{List, [], _∷_, _++_, map-append}
-use mathlib.Core.Logic.{_⊎_, inl, inr, _↔_}
+use mathlib.Core.Logic.{_↔_}
 use native.Mathlib.Omega.{arith}
-use lib.Bits.{bitXor, xor-zero-r}
 use lib.ListN.{length, getD}
 use lib.Seq.{getD-append-seam}
-use Rattle.bits.specs.Image.{image, chosen}
-use Rattle.bits.proofs.XorLaws.{even-or-odd, xor-cancel-right}
-use Rattle.bits.proofs.ImageLaws.{image-snoc}
 use Rattle.span.specs.Sums.{SumOf}
 use Rattle.span.specs.Scan.{members, keptAt, SumBefore, IsKept, kept}
-use Rattle.span.proofs.SumLaws.{length-snoc, sum-image}
+use Rattle.span.proofs.SumLaws.{length-snoc}
 use Rattle.span.proofs.ScanLaws.{members-prefix, keptAt-prefix, keptAt-below, keptAt-old, keptAt-new}
-
-pub sum-snoc : (cs : List ℕ) (v w : ℕ) → SumOf (cs ++ (v ∷ [])) w → SumOf cs w ⊎ SumOf cs (bitXor w v)
-sum-snoc cs v w s = go (even-or-odd (s .selected / 2 ^ length cs))
-  where
-    m : ℕ
-    m = s .selected
-
-    split : bitXor (image cs m) (chosen (m / 2 ^ length cs % 2) v) ≡ w
-    split = sym (image-snoc cs v m) ∙ s .sum
-
-    go : (m / 2 ^ length cs % 2 ≡ 0) ⊎ (m / 2 ^ length cs % 2 ≡ 1) → SumOf cs w ⊎ SumOf cs (bitXor w v)
-    go (inl e) = inl (rw (sym (xor-zero-r (image cs m)) ∙ (rw e at split)) at (sum-image cs m))
-    go (inr e) = inr (rw (sym (xor-cancel-right (image cs m) v) ∙ ap (λ (x : ℕ). bitXor x v) (rw e at split)) at (sum-image cs m))
 
 module _ (vs : List ℕ) (v : ℕ) where
   abbrev more : List ℕ

@@ -6,6 +6,7 @@
 --   sum-trans, span-trans    sums of sums are sums
 --   sum-left, sum-right      sums of a part are sums of the whole
 --   independent-injective, injective-independent    independent: no two masks select one sum
+--   sum-snoc            a sum of a list with v added is a sum of the list, or one with v taken away
 --   sum-append          a sum of two lists together is a sum of each
 --   independent-left    a list's beginning is independent if the list is
 --   independent-nil     the empty list is independent
@@ -14,19 +15,21 @@
 --   independent-width   an independent list of numbers of k bits has at most k members
 --   spanning-width      a list of which every number of k bits is a sum has at least k members
 --   independent-bijection, bijection-independent    n columns of n bits are independent exactly when their image is a bijection
-use Prim.Native.Nat.{ℕ, zero, suc, _+_, _/_, _%_, _^_, _≤_, _<_}
-use mathlib.Core.Path.{_≡_, refl, sym, ap, _∙_}
+use Prim.Native.Nat.{ℕ, zero, suc, _+_, _*_, _/_, _%_, _^_, _≤_, _<_}
+use mathlib.Core.Path.{_≡_, sym, ap, _∙_}
 use mathlib.Core.List.{List, [], _∷_, _++_}
+use mathlib.Core.Logic.{_⊎_, inl, inr, ⊎-elim}
+use native.Mathlib.Decide.{decLt}
 use native.Mathlib.Omega.{arith}
-use native.Mathlib.Nat.{mod-lt, pow-suc, div-lt-iff-lt-mul, lt-of-lt-of-le}
+use native.Mathlib.Nat.{mod-lt, pow-suc, div-eq-of-lt-le, lt-of-lt-of-le}
 use native.Mathlib.Numerals.{add-one}
 use lib.Arith.{lt-one}
-use lib.Bits.{bitXor, xor-zero-r, xor-self, xor-lt}
+use lib.Bits.{bitXor, xor-self, xor-lt}
 use lib.ListN.{length, getD, length-append, List·getD-append}
-use lib.Pow.{pow-pos, pow-mono, low}
+use lib.Pow.{pow-pos, pow-mono}
 use lib.Seq.{getD-append-add}
 use Rattle.bits.specs.Image.{image, AllBelow, chosen}
-use Rattle.bits.proofs.XorLaws.{xor-zero-eq}
+use Rattle.bits.proofs.XorLaws.{xor-cancel-right, xor-zero-eq}
 use Rattle.bits.proofs.ImageLaws.{image-zero, image-xor, image-unit, image-mod, image-append, image-prefix, image-lt, image-cons, image-nil, image-snoc}
 use Rattle.span.specs.Maps.{Injective, Bijection}
 use Rattle.span.specs.Sums.{SumOf, Independent}
@@ -71,6 +74,26 @@ sum-append cs ds s =
     let rest = m / 2 ^ length cs in
     (image cs m, image ds rest, sum-image cs m, sum-image ds rest, sym (image-append cs ds m) ∙ s .sum)
 
+-- a mask over one member more has the last bit, or is a mask without it
+snoc-cases : (cs : List ℕ) (v m : ℕ) → m < 2 ^ length (cs ++ (v ∷ []))
+    → ((m < 2 ^ length cs) × (image (cs ++ (v ∷ [])) m ≡ image cs m)) ⊎ (image (cs ++ (v ∷ [])) m ≡ bitXor (image cs m) v)
+snoc-cases cs v m h = elim (decLt m (2 ^ length cs)) [
+  | yes low ↦ inl (low, image-prefix cs (v ∷ []) m low)
+  | no high ↦
+      let short : m < 2 ^ length cs * 2 = rw (length-snoc cs v, pow-suc 2 (length cs)) at h in
+      let one : m / 2 ^ length cs ≡ 1 = div-eq-of-lt-le (2 ^ length cs) (omega arith) (omega arith) in
+      inr (image-snoc cs v m ∙ ap (λ (q : ℕ). bitXor (image cs m) (chosen (q % 2) v)) one)
+]
+
+pub sum-snoc : (cs : List ℕ) (v w : ℕ) → SumOf (cs ++ (v ∷ [])) w → SumOf cs w ⊎ SumOf cs (bitXor w v)
+sum-snoc cs v w s = ⊎-elim
+    (λ low. inl (record { selected = s .selected; below = low .0; sum = sym (low .1) ∙ s .sum }))
+    (λ top.
+    let m = s .selected in
+    let less : image cs m ≡ bitXor w v = sym (xor-cancel-right (image cs m) v) ∙ ap (λ (x : ℕ). bitXor x v) (sym top ∙ s .sum) in
+    inr (rw less at (sum-image cs m)))
+    (snoc-cases cs v (s .selected) (s .below))
+
 pub independent-injective : (cs : List ℕ) → Independent cs → Injective (image cs) (2 ^ length cs)
 independent-injective cs ind i j h k e =
     xor-zero-eq i j
@@ -87,20 +110,10 @@ independent-left cs ds ind m h e =
     ind m (lt-of-lt-of-le h (pow-mono (omega (arith, length-append cs ds)))) (image-prefix cs ds m h ∙ e)
 
 pub independent-snoc : (cs : List ℕ) (v : ℕ) → Independent cs → ¬ SumOf cs v → Independent (cs ++ (v ∷ []))
-independent-snoc cs v ind out m h e = go (m / 2 ^ length cs) refl
-  where
-    short : m / 2 ^ length cs < 2
-    short = div-lt-iff-lt-mul (pow-pos (length cs)) .1 (omega (arith, rw (length-snoc cs v, pow-suc 2 (length cs)) at h))
-
-    sum : bitXor (image cs m) (chosen (m / 2 ^ length cs % 2) v) ≡ 0
-    sum = sym (image-snoc cs v m) ∙ e
-
-    go : (q : ℕ) → m / 2 ^ length cs ≡ q → m ≡ 0
-    go zero z =
-        let low : m / 2 ^ length cs < 1 = omega arith in
-        ind m (omega (arith, div-lt-iff-lt-mul (pow-pos (length cs)) .0 low)) (sym (xor-zero-r (image cs m)) ∙ (rw z at sum))
-    go (suc zero) z = absurd (out (rw (xor-zero-eq (image cs m) v (rw z at sum)) at (sum-image cs m)))
-    go (suc (suc q)) z = absurd (omega (arith, short))
+independent-snoc cs v ind out m h e = ⊎-elim
+    (λ low. ind m (low .0) (sym (low .1) ∙ e))
+    (λ top. absurd (out (rw (xor-zero-eq (image cs m) v (sym top ∙ e)) at (sum-image cs m))))
+    (snoc-cases cs v m h)
 
 pub independent-le : (cs ds : List ℕ) → Independent cs → ((j : ℕ) → j < length cs → SumOf ds (getD cs j 0)) → length cs ≤ length ds
 independent-le cs ds ind sums = injective-width {f = λ m. sum-trans cs ds sums m .selected}

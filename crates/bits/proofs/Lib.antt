@@ -1,4 +1,5 @@
 pub mod XorLaws
 pub mod ParityLaws
 pub mod ImageLaws
+pub mod NextLaws
 pub mod Cases

@@ -1,2 +1,4 @@
+pub mod TruthLaws
 pub mod LowestLaws
+pub mod AnswerLaws
 pub mod Cases

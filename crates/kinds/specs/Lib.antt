@@ -1,4 +1,7 @@
--- The board's vocabulary: the sizes of an edition, the refusals and their numbers, and which of a tool's refusals is given.
+-- The board's vocabulary: the sizes of an edition, the words of a frame, the refusals and their numbers, which of a tool's refusals is given, and how contracts say so.
 pub mod Edition
+pub mod Frame
 pub mod Refusal
 pub mod Lowest
+pub mod Reasons
+pub mod Answers

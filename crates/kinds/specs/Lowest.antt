@@ -1,6 +1,7 @@
 -- "Of a tool's numbers the lowest that applies is given" (01), said once for every tool.
 -- A tool's table is a list of reasons to refuse, and of those that apply the first of the list is given.
 --   Reason                   a refusal, the statement that makes it apply, in 01's words, and a decision of that statement
+--   unless r d               the reason that refuses with r unless the statement that d decides holds
 --   orElse d r o             the refusal r if d says that it applies, else o
 --   lowest t                 the refusal of the first reason of t that applies; none where none does
 --   EachReason Q t           every reason of t has Q
@@ -20,6 +21,13 @@ pub record Reason : Type 1 where
   pub refusal : Refusal
   pub applies : Type 0
   pub decided : Dec applies
+
+abbrev pub unless : {A : Type 0} → Refusal → Dec A → Reason
+unless {A} r d = record { refusal = r; applies = ¬ A; decided = fails d }
+  where
+    fails : Dec A → Dec (¬ A)
+    fails (yes a) = no (λ n. n a)
+    fails (no n) = yes n
 
 abbrev pub orElse : {A : Type 0} → Dec A → Refusal → Option Refusal → Option Refusal
 orElse (yes a) r o = some r

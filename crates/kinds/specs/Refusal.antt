@@ -1,10 +1,13 @@
 -- What each refusal says, as 01's table 'When a tool says no' has it.
 --   numberOf r       its number
 --   valuesOf r       the numbers that it carries: the two ports of 11 and 13, else none
---   given o          the number of an answer that may be a refusal: 0 where it is none
+--   said a           the refusal that an answer gives; none where it says done
+--   given o          the number of the refusal o; 0 where there is none
 use Prim.Native.Nat.{ℕ}
 use mathlib.Core.List.{List, [], _∷_}
 use mathlib.Core.Option.{Option, none, some}
+use Rattle.kinds.specs.declared.Answer.{Answer}
+use Rattle.kinds.specs.declared.Answer.the-variants.{Done, Refused}
 use Rattle.kinds.specs.declared.Refusal.{Refusal}
 use Rattle.kinds.specs.declared.Refusal.the-variants.{Sizes, Length, TooLarge, Dependent, Layout, WriteWiring, ReadWiring, SharedCell, Differs, State, WriteClash, Overwrite, ReadClash, EmptyRead, Card}
 
@@ -41,6 +44,10 @@ valuesOf Overwrite = []
 valuesOf (ReadClash p q) = p .0 ∷ q .0 ∷ []
 valuesOf EmptyRead = []
 valuesOf Card = []
+
+abbrev pub said : Answer → Option Refusal
+said Done = none
+said (Refused r) = some r
 
 abbrev pub given : Option Refusal → ℕ
 given none = 0

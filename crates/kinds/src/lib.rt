@@ -1,5 +1,7 @@
-// The board's vocabulary: four kinds of number, and the ways a tool says no.
+// The board's vocabulary: four kinds of number, the sizes, and the ways a tool says no.
 ghost use mathlib.Core.Path.{_≡_};
+ghost use Rattle.kinds.specs.Answers.{Says};
+ghost use Rattle.kinds.specs.Edition.{edition1, SizedN, Sized};
 ghost use Rattle.kinds.specs.Refusal.{numberOf};
 
 // "A cycle number may never stand where a port number belongs" (01): the compiler refuses one for another.
@@ -30,6 +32,12 @@ pub enum Refusal {
     Card,
 }
 
+// What a tool answers whose results stand in the buffers it was lent.
+pub enum Answer {
+    Done,
+    Refused(Refusal),
+}
+
 // The number that 01 gives a refusal.
 pub fn number(refusal: Refusal) -> u32
     ensures { λ r. ⌜ r ≡ numberOf refusal ⌝ }
@@ -51,4 +59,32 @@ pub fn number(refusal: Refusal) -> u32
         Refusal::EmptyRead => 14,
         Refusal::Card => 15,
     }
+}
+
+const MOST_N: u32 = 10;
+
+const MOST_K: u32 = 5;
+
+pub fn sized_n(n: u32) -> bool
+    ensures { λ r. ⌜ Says r (SizedN edition1 n) ⌝ }
+{
+    if n < 1 {
+        return false;
+    }
+    n <= MOST_N
+}
+
+pub fn sized(n: u32, k: u32) -> bool
+    ensures { λ r. ⌜ Says r (Sized edition1 n k) ⌝ }
+{
+    if !sized_n(n) {
+        return false;
+    }
+    if k < 1 {
+        return false;
+    }
+    if n < k {
+        return false;
+    }
+    k <= MOST_K
 }

@@ -9,6 +9,8 @@
 --   echelon-none           no entry, for the empty list
 --   echelon-old, mask-old  the same entries, for a number that they make up; its mask
 --   echelon-new, mask-new  what is left of a number that they don't make up is an entry of its own; its mask
+--   no-sum                 a number that they don't make up is no sum of kept ones
+--   made-up                a number that they make up is a sum of kept ones
 --   not-kept, kept-rest    the first is not kept, the second is
 use Prim.Native.Nat.{ℕ, _*_, _+_, _^_, _≤_, _<_}
 use mathlib.Core.Path.{_≡_, refl, sym, ap, ap₂, _∙_}
@@ -131,7 +133,7 @@ echelon-none = record {
 
 -- v is made up by the mask m
 module _ {vs : List ℕ} (v : ℕ) {m : ℕ} (short : m < 2 ^ width) (a : Made vs (entry v m)) where
-  made-up : SumOf (kept vs) v
+  pub made-up : SumOf (kept vs) v
   made-up = rw (high v width short) at (made-sum a)
 
   pub echelon-old : {es : List ℕ} → v < 2 ^ width → Echelon es vs → Echelon es (vs ++ (v ∷ []))
@@ -151,6 +153,14 @@ module _ {vs : List ℕ} (v : ℕ) {m : ℕ} (short : m < 2 ^ width) (a : Made v
       let p = made-parts {v = v} short (made-more vs v a) in
       mask-unique (vs ++ (v ∷ [])) (length vs) (omega arith) (rw (length-snoc vs v) at (p .0)) (p .1 ∙ sym (next-at vs v))
 
+-- what was taken from v is a sum of those kept; were v one, so would be the row that is left
+taken : {vs : List ℕ} (v left : ℕ) → Made vs (bitXor (v * 2 ^ width) left) → SumOf (kept vs) (bitXor v (rowOf left))
+taken v left a = rw (xor-shr (v * 2 ^ width) left width ∙ ap (λ (x : ℕ). bitXor x (rowOf left)) (shl-shr v width)) at (made-sum a)
+
+pub no-sum : {es vs : List ℕ} (v left : ℕ) → Echelon es vs → Made vs (bitXor (v * 2 ^ width) left) → rowOf left ≢ 0
+    → getD es (leadingZeros width (rowOf left)) 0 ≡ 0 → ¬ SumOf (kept vs) v
+no-sum v left h a rest stuck s = h .complete (rowOf left) (rw (xor-cancel v (rowOf left)) at (sum-xor s (taken v left a))) rest stuck
+
 -- v leaves a row, at a place without an entry
 module _ {es vs : List ℕ} {v left own : ℕ} (fits : v < 2 ^ width) (wide : left < 2 ^ (width + width)) (h : Echelon es vs)
     (a : Made vs (bitXor (v * 2 ^ width) left)) (rest : rowOf left ≢ 0) (stuck : getD es (leadingZeros width (rowOf left)) 0 ≡ 0)
@@ -167,12 +177,8 @@ module _ {es vs : List ℕ} {v left own : ℕ} (fits : v < 2 ^ width) (wide : le
   rest-fits : rowOf left < 2 ^ width
   rest-fits = omega arith
 
-  -- what was taken from v is a sum of those kept; were v one, so would be the row that is left
-  taken : SumOf (kept vs) (bitXor v (rowOf left))
-  taken = rw (xor-shr (v * 2 ^ width) left width ∙ ap (λ (x : ℕ). bitXor x (rowOf left)) (shl-shr v width)) at (made-sum a)
-
   new : ¬ SumOf (kept vs) v
-  new s = h .complete (rowOf left) (rw (xor-cancel v (rowOf left)) at (sum-xor s taken)) rest stuck
+  new = no-sum v left h a rest stuck
 
   pub kept-rest : IsKept (vs ++ (v ∷ [])) (length vs)
   kept-rest = IsKept-snoc vs v .1 new
@@ -251,7 +257,7 @@ module _ {es vs : List ℕ} {v left own : ℕ} (fits : v < 2 ^ width) (wide : le
 
       go : SumOf (kept vs) w ⊎ SumOf (kept vs) (bitXor w v) → new-at (leadingZeros width w) ≢ 0
       go (inl old) = there-old (leadingZeros width w) (h .complete w old n)
-      go (inr less-v) = complete-rest w n (rw rest-for-v at (sum-xor less-v taken))
+      go (inr less-v) = complete-rest w n (rw rest-for-v at (sum-xor less-v (taken v left a)))
 
   pub echelon-new : Echelon (set es z (bitXor left own)) (vs ++ (v ∷ []))
   echelon-new = record {

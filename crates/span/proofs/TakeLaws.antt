@@ -1,38 +1,38 @@
--- What a caller of `take` reads off its promise.
---   false≢true     anything follows from it
+-- What a caller of `take` or `mask_of` reads off its promise.
 --   next-unique    two right answers say the same
 --   TakenAt, take-at    the numbers of a list taken in order: what the answer says of number j of the list
-use Prim.Native.Nat.{ℕ, suc, _+_, _<_}
-use mathlib.Core.Path.{_≡_, refl, sym, ap, ap₂, _∙_}
-use mathlib.Core.Bool.{Bool, true, false}
+--   asked          the mask of a sum of the numbers taken selects that sum from them
+use Prim.Native.Nat.{ℕ, suc, _+_, _^_, _<_}
+use mathlib.Core.Path.{_≡_, sym, ap, ap₂, _∙_}
+use mathlib.Core.Bool.{true, false}
 use mathlib.Core.List.{List, [], _∷_, _++_}
 use mathlib.Core.Logic.{_↔_, ⊎-elim}
 use native.Mathlib.Numerals.{add-one}
 use native.Mathlib.Omega.{arith}
 use lib.ListN.{length, getD, take, drop, take-append-drop, length-take}
 use lib.Seq.{take-suc, length-take-le}
+use Rattle.bits.specs.Image.{image}
+use Rattle.bits.proofs.ImageLaws.{image-prefix}
+use Rattle.kinds.specs.Answers.{Says}
+use Rattle.kinds.proofs.TruthLaws.{false≢true, says-same}
+use Rattle.span.specs.Sums.{SumOf}
 use Rattle.span.specs.Scan.{SumBefore, IsKept, mask}
 use Rattle.span.specs.Held.{Holds}
-use Rattle.span.specs.Take.{room, Next, Takes}
+use Rattle.span.specs.Take.{room, Next, Takes, Asks}
 use Rattle.span.specs.declared.Scan.{Scan}
 use Rattle.span.specs.declared.Taken.{Taken}
+use Rattle.span.proofs.SumLaws.{span-trans}
 use Rattle.span.proofs.ScanLaws.{kept-or-sum, IsKept-prefix, mask-prefix}
-
-pub false≢true : {A : Type 0} → false ≡ true → A
-false≢true e = absurd (let z : _≡_ {A = ℕ} 0 1 = cc in omega arith)
+use Rattle.span.proofs.MaskLaws.{mask-before, mask-sum}
+use Rattle.span.proofs.RankLaws.{kept-sum}
+use Rattle.span.proofs.SnocLaws.{next-at, SumBefore-snoc}
 
 pub next-unique : {vs : List ℕ} {v : ℕ} {r q : Taken} → Next vs v r → Next vs v q → (r .kept ≡ q .kept) × (r .mask ≡ q .mask)
-next-unique {r = r} {q} n m = (same (r .kept) (q .kept) (n .keeps) (m .keeps), n .masked ∙ sym (m .masked))
-  where
-    same : {P : Type 0} (a b : Bool) → (a ≡ true) ↔ P → (b ≡ true) ↔ P → a ≡ b
-    same true true p o = refl
-    same true false p o = sym (o .1 (p .0 refl))
-    same false true p o = p .1 (o .0 refl)
-    same false false p o = refl
+next-unique {r = r} {q} n m = (says-same (r .kept) (q .kept) (n .keeps) (m .keeps), n .masked ∙ sym (m .masked))
 
 pub record TakenAt (cs : List ℕ) (j : ℕ) (r : Taken) : Type 0 where
   pub holds : Holds (r .scan) (take (j + 1) cs)
-  pub keeps : (r .kept ≡ true) ↔ IsKept cs j
+  pub keeps : Says (r .kept) (IsKept cs j)
   pub sums : r .kept ≡ false → SumBefore cs j
   pub masked : r .mask ≡ mask cs j
 
@@ -62,3 +62,11 @@ take-at {cs} {j} {scan} {r} inside free h t = record {
 
     prefix : IsKept (take (suc j) cs) j ↔ IsKept cs j
     prefix = let p = IsKept-prefix (take (suc j) cs) (drop (suc j) cs) j reach in (λ k. rw whole at (p .1 k), λ k. p .0 (rw whole k))
+
+pub asked : {cs : List ℕ} {scan : Scan} {v r : ℕ} → Holds scan cs → SumOf cs v → Asks scan v r → (r < 2 ^ length cs) × (image cs r ≡ v)
+asked {cs} {v = v} {r} h s a =
+    let more = cs ++ (v ∷ []) in
+    let known = span-trans {cs = cs} (kept-sum cs) s in
+    let is = a .sum cs h known in
+    let low : r < 2 ^ length cs = rw is (mask-before more (length cs) (SumBefore-snoc cs v .1 known)) in
+    (low, sym (image-prefix cs (v ∷ []) r low) ∙ ap (image more) is ∙ mask-sum more (length cs) ∙ next-at cs v)

@@ -1,6 +1,6 @@
 // The scan: numbers come one by one, and one that is no sum of those kept before it is kept.
 ghost use Rattle.span.specs.Held.{Holds, Reduces};
-ghost use Rattle.span.specs.Take.{Takes};
+ghost use Rattle.span.specs.Take.{Takes, Asks};
 ghost use mathlib.Core.List.{[]};
 
 // What a scan has kept, in echelon form. An entry is a row in its upper 16 bits, and in its lower 16 the mask that says which
@@ -52,6 +52,18 @@ impl Scan {
             kept,
             mask,
         }
+    }
+
+    // Which of the kept numbers have v as their sum; 0 where none have, and where v is 0.
+    pub fn mask_of(self, v: u16) -> u16
+        ensures { λ r. ⌜ Asks self v r ⌝ }
+    {
+        let entry = (v as u32) * 65536;
+        let left = reduce(&self.entries, entry);
+        if 65536 <= left {
+            return 0;
+        }
+        left as u16
     }
 }
 

@@ -8,12 +8,12 @@ use borrow.Author.Needs.{needs}
 use lib.Bits.{bitXor, xor-shifted}
 use lib.Count.{leadingZeros}
 use lib.ListN.{set}
+use Rattle.kinds.proofs.TruthLaws.{false≢true}
 use Rattle.span.specs.Held.{width, entry, Made, Reduces}
 use Rattle.span.specs.Take.{room, Takes}
 use Rattle.span.specs.declared.Scan.{Scan}
 use Rattle.span.proofs.HeldLaws.{row-high, row-left, row-place, echelon-old, not-kept, mask-old, echelon-new, kept-rest, mask-new}
 use Rattle.span.proofs.SumLaws.{length-snoc}
-use Rattle.span.proofs.TakeLaws.{false≢true}
 use Rattle.span.proofs.Scan.take.Statement.{statement}
 use Rattle.span.proofs.Scan.take.Tie as tie
 

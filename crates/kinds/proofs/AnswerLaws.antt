@@ -1,0 +1,44 @@
+-- Answers, and what they leave.
+--   said-same         answers that say the same are the same
+--   refuses           an answer that is a refusal, and everything as it came
+--   does              an answer that is none, and what it leaves
+--   answers-done      where no reason applies, a tool has done its work
+--   answers-same      two right answers are the same
+use mathlib.Core.Path.{_≡_, refl, sym, _∙_}
+use mathlib.Core.List.{List}
+use mathlib.Core.Option.{none}
+use Prim.Native.Nat.{ℕ}
+use native.Mathlib.Omega.{arith}
+use Rattle.kinds.specs.Refusal.{said}
+use Rattle.kinds.specs.Lowest.{Reason, lowest}
+use Rattle.kinds.specs.Answers.{Answers}
+use Rattle.kinds.specs.declared.Answer.{Answer}
+use Rattle.kinds.specs.declared.Answer.the-variants.{Done, Refused}
+use Rattle.kinds.specs.declared.Refusal.{Refusal}
+
+pub said-same : (a b : Answer) → said a ≡ said b → a ≡ b
+said-same Done Done e = refl
+said-same Done (Refused y) e = absurd (let z : _≡_ {A = ℕ} 0 1 = cc in omega arith)
+said-same (Refused x) Done e = absurd (let z : _≡_ {A = ℕ} 0 1 = cc in omega arith)
+said-same (Refused x) (Refused y) e = cc
+
+module _ {t : List Reason} {D K : Type 0} where
+  pub refuses : {r : Answer} {x : Refusal} → r ≡ Refused x → said r ≡ lowest t → K → Answers t r D K
+  refuses e l k = record {
+    lowest-of = l;
+    done = λ d. absurd (let z : _≡_ {A = ℕ} 0 1 = cc in omega arith);
+    refused = λ x f. k;
+  }
+
+  pub does : {r : Answer} → r ≡ Done → said r ≡ lowest t → D → Answers t r D K
+  does e l d = record {
+    lowest-of = l;
+    done = λ f. d;
+    refused = λ x f. absurd (let z : _≡_ {A = ℕ} 0 1 = cc in omega arith);
+  }
+
+  pub answers-done : {r : Answer} → lowest t ≡ none → Answers t r D K → r ≡ Done
+  answers-done {r} e a = said-same r Done (a .lowest-of ∙ e)
+
+pub answers-same : {t : List Reason} {D K E L : Type 0} {r s : Answer} → Answers t r D K → Answers t s E L → r ≡ s
+answers-same {r = r} {s} a b = said-same r s (a .lowest-of ∙ sym (b .lowest-of))

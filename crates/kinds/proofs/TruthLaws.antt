@@ -1,0 +1,30 @@
+-- A bool that says whether a statement holds.
+--   false≢true      anything follows from it
+--   says-no         false says it of a statement that does not hold
+--   says-yes        true says it of one that does
+--   denied          where the bool is false, the statement does not hold
+--   says-same       two bools that say it of one statement are equal
+use Prim.Native.Nat.{ℕ}
+use mathlib.Core.Path.{_≡_, refl, sym, _∙_}
+use mathlib.Core.Bool.{Bool, true, false}
+use native.Mathlib.Omega.{arith}
+use Rattle.kinds.specs.Answers.{Says}
+
+pub false≢true : {A : Type 0} → false ≡ true → A
+false≢true e = absurd (let z : _≡_ {A = ℕ} 0 1 = cc in omega arith)
+
+module _ {P : Type 0} where
+  pub says-no : ¬ P → Says false P
+  says-no n = (λ e. false≢true e, λ p. absurd (n p))
+
+  pub says-yes : P → Says true P
+  says-yes p = (λ e. p, λ q. refl)
+
+  pub denied : {b : Bool} → Says b P → b ≡ false → ¬ P
+  denied s e p = false≢true (sym e ∙ s .1 p)
+
+  pub says-same : (a b : Bool) → Says a P → Says b P → a ≡ b
+  says-same true true p o = refl
+  says-same true false p o = sym (o .1 (p .0 refl))
+  says-same false true p o = p .1 (o .0 refl)
+  says-same false false p o = refl

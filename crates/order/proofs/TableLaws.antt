@@ -1,0 +1,63 @@
+-- The table of 1 to 4.
+--   not-large        where no column is 2^n or more, all are below
+--   outside-sizes    sizes that are refused give 1
+--   within-sizes     sizes that are not leave 2 to 4 to decide
+--   order-ascending  its numbers go up, so the first that applies is the lowest
+--   order-sound      none applies exactly when the sizes are right, every lent length is, and the columns are an order
+use Prim.Native.Nat.{ℕ, _^_, _<_}
+use mathlib.Core.Path.{_≡_, sym, _∙_}
+use mathlib.Core.Bool.{Bool}
+use mathlib.Core.List.{List, [], _∷_}
+use mathlib.Core.Logic.{_↔_}
+use mathlib.Core.Option.{none}
+use native.Mathlib.Decide.{decLt}
+use native.Mathlib.Omega.{arith}
+use lib.ListN.{length, getD}
+use Rattle.kinds.specs.Lowest.{lowest, Ascending}
+use Rattle.kinds.specs.Reasons.{outside, RightLengths, rightLengths?}
+use Rattle.kinds.specs.declared.Answer.the-variants.{Refused}
+use Rattle.kinds.specs.declared.Refusal.the-variants.{Sizes}
+use Rattle.kinds.proofs.LowestLaws.{lowest-take, lowest-skip, lowest-none}
+use Rattle.bits.specs.Image.{AllBelow}
+use Rattle.span.specs.Sums.{independent?}
+use Rattle.order.specs.Order.{Order}
+use Rattle.order.specs.Table.{ColumnTooLarge, columnTable, orderTable}
+use Rattle.order.specs.Tools.{Checks}
+use Rattle.order.specs.Inside.{ChecksColumns}
+use Rattle.order.specs.declared.Checked.{Checked}
+
+stable : {A : Type 0} → Dec A → ¬ (¬ A) → A
+stable (yes a) n = a
+stable (no m) n = absurd (n m)
+
+pub not-large : (n : ℕ) (C : List ℕ) → ¬ ColumnTooLarge n C → AllBelow (2 ^ n) C
+not-large n C small j l = elim (decLt (getD C j 0) (2 ^ n)) [ yes b ↦ b | no out ↦ absurd (small (j, l, omega arith)) ]
+
+module _ {S : Type 0} (sized : Dec S) (n : ℕ) (C : List ℕ) where
+  pub outside-sizes : (fits : Bool) → ¬ S → Checks sized n C fits (Refused Sizes)
+  outside-sizes fits out others f = sym (lowest-take (outside sized) (columnTable n C others) out)
+
+  pub within-sizes : (fits : Bool) {r : Checked} → S → ChecksColumns n C fits r → Checks sized n C fits (r .answer)
+  within-sizes fits s j others f = j .answer others f ∙ sym (lowest-skip (outside sized) (columnTable n C others) (λ out. out s))
+
+  pub order-ascending : (others : List (ℕ × ℕ)) → Ascending (orderTable sized n C others)
+  order-ascending others =
+      ((omega arith, (omega arith, (omega arith, tt))), ((omega arith, (omega arith, tt)), ((omega arith, tt), (tt, tt))))
+
+  pub order-sound : (others : List (ℕ × ℕ)) → lowest (orderTable sized n C others) ≡ none ↔ (S × RightLengths others × Order n C)
+  order-sound others = (
+    λ e.
+        let none-applies = lowest-none (orderTable sized n C others) .0 e in
+        let right = stable (rightLengths? ((length C, n) ∷ others)) (none-applies .1 .0) in
+        let order : Order n C = record {
+          count = right .0;
+          below = not-large n C (none-applies .1 .1 .0);
+          independent = stable (independent? C) (none-applies .1 .1 .1 .0);
+        } in
+        (stable sized (none-applies .0), right .1, order),
+    λ (s, right, order).
+        lowest-none (orderTable sized n C others) .1 (
+          λ out. out s,
+          (λ wrong. wrong (order .count, right), (λ (j, l, large). omega (arith, order .below j l), (λ d. d (order .independent), tt))),
+        ),
+  )

@@ -1,0 +1,130 @@
+-- `order::check_columns` meets its contract. It goes down the table from 2 to 4; past each test the reason does not apply.
+use Prim.Native.Nat.{ℕ, _^_, _<_}
+use mathlib.Core.Path.{_≡_, sym, ap, _∙_}
+use mathlib.Core.Bool.{Bool, true, false}
+use mathlib.Core.List.{List, [], _∷_}
+use mathlib.Core.Logic.{_↔_}
+use mathlib.Core.Option.{Option, none, some}
+use native.Mathlib.Decide.{decLt}
+use native.Mathlib.Omega.{arith}
+use borrow.Author.Needs.{needs}
+use borrow.Author.Tests.{not-true, not-false}
+use lib.ListN.{length, getD}
+use Rattle.kinds.specs.Refusal.{said}
+use Rattle.kinds.specs.Lowest.{lowest}
+use Rattle.kinds.specs.Reasons.{RightLengths}
+use Rattle.kinds.specs.Answers.{Says}
+use Rattle.kinds.specs.declared.Answer.the-variants.{Done, Refused}
+use Rattle.kinds.specs.declared.Refusal.{Refusal}
+use Rattle.kinds.specs.declared.Refusal.the-variants.{Length, TooLarge, Dependent}
+use Rattle.kinds.proofs.TruthLaws.{denied}
+use Rattle.kinds.proofs.LowestLaws.{lowest-nil, lowest-take, lowest-skip}
+use Rattle.bits.specs.Image.{AllBelow}
+use Rattle.order.specs.Order.{Order}
+use Rattle.order.specs.Table.{ColumnTooLarge, tooLarge, dependent, columnTable}
+use Rattle.order.specs.Inside.{ChecksColumns}
+use Rattle.order.specs.declared.Checked.{Checked}
+use Rattle.order.proofs.TableLaws.{not-large}
+use Rattle.order.proofs.check_columns.Statement.{statement}
+use Rattle.order.proofs.check_columns.Tie as tie
+
+record Gives (n : ℕ) (C : List ℕ) (fits : Bool) (o : Option Refusal) : Type 0 where
+  gives : (others : List (ℕ × ℕ)) → Says fits (RightLengths others)
+      → lowest (columnTable n C others) ≡ o
+
+module _ {n : ℕ} {C : List ℕ} {fits : Bool} where
+  refuses : {x : Refusal} {r : Checked} → r .answer ≡ Refused x → Gives n C fits (some x) → ChecksColumns n C fits r
+  refuses {x} {r} e g = record {
+    answer = λ others f. ap said e ∙ sym (g .gives others f);
+    order = λ d. absurd (let z : _≡_ {A = ℕ} 0 1 = cc in omega arith);
+    holds = λ d. absurd (let z : _≡_ {A = ℕ} 0 1 = cc in omega arith);
+  }
+
+  other-length : fits ≡ false → Gives n C fits (some Length)
+  other-length wrong = record { gives = λ others f. lowest-take _ _ (λ right. denied f wrong (right .1)) }
+
+  own-length : ¬ (length C ≡ n) → Gives n C fits (some Length)
+  own-length wrong = record { gives = λ others f. lowest-take _ _ (λ right. wrong (right .0)) }
+
+  past-2 : {o : Option Refusal} → length C ≡ n → fits ≡ true → lowest (tooLarge n C ∷ dependent C ∷ []) ≡ o → Gives n C fits o
+  past-2 count fit e = record { gives = λ others f. lowest-skip _ _ (λ wrong. wrong (count, f .0 fit)) ∙ e }
+
+refused-requires : tie.Need-refused-requires
+refused-requires c κs = search needs
+
+returns : tie.Need-returns
+returns c = refuses (c .refused .ensures) (other-length (not-true _ (c .before .if1 .taken)))
+
+refused-requires-2 : tie.Need-refused-requires-2
+refused-requires-2 c κs = search needs
+
+returns-2 : tie.Need-returns-2
+returns-2 c = refuses (c .refused2 .ensures) (own-length (c .before .if2 .taken))
+
+too-large-requires : tie.Need-too-large-requires
+too-large-requires c κs = search needs
+
+refused-requires-3 : tie.Need-refused-requires-3
+refused-requires-3 c κs = search needs
+
+returns-3 : tie.Need-returns-3
+returns-3 c =
+    let lengths = c .before .before .before in
+    refuses (c .refused3 .ensures)
+    (past-2 (lengths .if2 .left) (not-false _ (lengths .before .if1 .left)) (lowest-take _ _ (c .before .before .too-large .ensures .0 (c .before .if3 .taken))))
+
+scan-columns-requires : tie.Need-scan-columns-requires
+scan-columns-requires c κs = omega (arith, c .before .before .if2 .left, c .before .before .before .before .before .pre)
+
+refused-requires-4 : tie.Need-refused-requires-4
+refused-requires-4 c κs = search needs
+
+-- the tests up to the scan
+module _ (c : tie.After-scan-columns) where
+  abbrev start : tie.Start
+  start = c .before .before .before .before .before .before
+
+  abbrev C : List ℕ
+  C = start .args .columns .now
+
+  count : length C ≡ start .args .n
+  count = c .before .before .before .if2 .left
+
+  small : ¬ ColumnTooLarge (start .args .n) C
+  small = denied (c .before .before .too-large .ensures) (c .before .if3 .left)
+
+  past-3 : {o : Option Refusal} → lowest (dependent C ∷ []) ≡ o → Gives (start .args .n) C (start .args .fits) o
+  past-3 e = past-2 count (not-false _ (c .before .before .before .before .if1 .left)) (lowest-skip _ _ small ∙ e)
+
+returns-4 : tie.Need-returns-4
+returns-4 c =
+    let scanned = c .before .before .before in
+    refuses (c .refused4 .ensures)
+    (past-3 scanned (lowest-take _ _ (denied (scanned .scan-columns .ensures .says) (not-true _ (c .before .if4 .taken)))))
+
+returns-5 : tie.Need-returns-5
+returns-5 c =
+    let scanned = c .before .before .before in
+    let says = not-false _ (c .before .if4 .left) in
+    let independent = scanned .scan-columns .ensures .says .0 says in
+    record {
+      answer = λ others f. sym (past-3 scanned (lowest-skip _ _ (λ d. d independent) ∙ lowest-nil) .gives others f);
+      order = λ d. record { count = count scanned; below = not-large _ (C scanned) (small scanned); independent = independent };
+      holds = λ d. scanned .scan-columns .ensures .holds says;
+    }
+
+pub check-columns-spec : {M : Type 1} → statement M
+check-columns-spec =
+    tie.close
+    (tie.spec
+    refused-requires
+    returns
+    refused-requires-2
+    returns-2
+    too-large-requires
+    refused-requires-3
+    returns-3
+    scan-columns-requires
+    refused-requires-4
+    returns-4
+    returns-5)

@@ -1,0 +1,49 @@
+-- What the functions inside the crate promise one another.
+--   Few C                      a scan has room for the columns C
+--   Scans C r                  r says whether C is independent; if so, its scan holds C
+--   ChecksColumns n C fits r   r is the lowest of 2 to 4 that applies, fits as in `Checks`; if none does, C is an order and the scan holds it
+--   UndoesHeld scan m m'       whatever order the scan holds, of as many columns as m has, m' undoes it
+--   Steps C s                  s[j] is the sum of columns 0 to j: what the place changes by, from a number to the next, where the next ends in j zeros
+--   Frames n C f g             an order, and two frames
+use Prim.Native.Nat.{ℕ, _+_, _-_, _^_, _<_, _≤_}
+use mathlib.Core.Path.{_≡_}
+use mathlib.Core.Bool.{Bool, true}
+use mathlib.Core.List.{List}
+use lib.ListN.{length, getD}
+use Rattle.kinds.specs.Refusal.{said}
+use Rattle.kinds.specs.Lowest.{lowest}
+use Rattle.kinds.specs.Reasons.{RightLengths}
+use Rattle.kinds.specs.Answers.{Says}
+use Rattle.kinds.specs.declared.Answer.the-variants.{Done}
+use Rattle.span.specs.Sums.{Independent}
+use Rattle.span.specs.Held.{Holds}
+use Rattle.span.specs.Take.{room}
+use Rattle.span.specs.declared.Scan.{Scan}
+use Rattle.order.specs.Order.{place, Order, Undoes}
+use Rattle.order.specs.Table.{columnTable}
+use Rattle.order.specs.declared.Scanned.{Scanned}
+use Rattle.order.specs.declared.Checked.{Checked}
+
+abbrev pub Few : List ℕ → Type 0
+Few C = length C ≤ room
+
+pub record Scans (C : List ℕ) (r : Scanned) : Type 0 where
+  pub says : Says (r .independent) (Independent C)
+  pub holds : r .independent ≡ true → Holds (r .scan) C
+
+pub record ChecksColumns (n : ℕ) (C : List ℕ) (fits : Bool) (r : Checked) : Type 0 where
+  pub answer : (others : List (ℕ × ℕ)) → Says fits (RightLengths others) → said (r .answer) ≡ lowest (columnTable n C others)
+  pub order : r .answer ≡ Done → Order n C
+  pub holds : r .answer ≡ Done → Holds (r .scan) C
+
+abbrev pub UndoesHeld : Scan → List ℕ → List ℕ → Type 0
+UndoesHeld scan m m' = (C : List ℕ) → Holds scan C → Order (length m) C → Undoes (length m) C m'
+
+abbrev pub Steps : List ℕ → List ℕ → Type 0
+Steps C s = (j : ℕ) → j < length C → getD s j 0 ≡ place C (2 ^ (j + 1) - 1)
+
+pub record Frames (n : ℕ) (C f g : List ℕ) : Type 0 where
+  pub few : Few C
+  pub order : Order n C
+  pub came : length f ≡ 2 ^ n
+  pub leaves : length g ≡ 2 ^ n

@@ -1,0 +1,42 @@
+-- When an order is refused (01, 'When a tool says no', 1 to 4).
+--   ColumnTooLarge n C        a column of C is 2^n or more
+--   tooLarge n C              3: a column is 2^n or more
+--   dependent C               4: columns dependent
+--   columnTable n C others    2 to 4, where the lengths lent beside the columns, and what they should be, are others
+--   orderTable d n C others   1 to 4, where d decides whether the sizes are right
+--   inverseTable e n C out, moverTable e n C frame out      those of the inverse and of the mover, which take no k
+use Prim.Native.Nat.{ℕ, _^_, _<_, _≤_}
+use mathlib.Core.List.{List, [], _∷_}
+use native.Mathlib.Decide.{decLe}
+use lib.ListN.{length, getD}
+use Rattle.kinds.specs.Edition.{Edition, sizedN?}
+use Rattle.kinds.specs.Lowest.{Reason, unless}
+use Rattle.kinds.specs.Reasons.{outside, wrongLength}
+use Rattle.kinds.specs.declared.Refusal.the-variants.{TooLarge, Dependent}
+use Rattle.span.specs.Search.{someBelow}
+use Rattle.span.specs.Sums.{independent?}
+
+abbrev pub ColumnTooLarge : ℕ → List ℕ → Type 0
+ColumnTooLarge n C = (j : ℕ) × (j < length C) × (2 ^ n ≤ getD C j 0)
+
+abbrev pub tooLarge : ℕ → List ℕ → Reason
+tooLarge n C = record {
+  refusal = TooLarge;
+  applies = ColumnTooLarge n C;
+  decided = someBelow (λ j. decLe (2 ^ n) (getD C j 0)) (length C);
+}
+
+abbrev pub dependent : List ℕ → Reason
+dependent C = unless Dependent (independent? C)
+
+abbrev pub columnTable : ℕ → List ℕ → List (ℕ × ℕ) → List Reason
+columnTable n C others = wrongLength ((length C, n) ∷ others) ∷ tooLarge n C ∷ dependent C ∷ []
+
+abbrev pub orderTable : {S : Type 0} → Dec S → ℕ → List ℕ → List (ℕ × ℕ) → List Reason
+orderTable sized n C others = outside sized ∷ columnTable n C others
+
+abbrev pub inverseTable : Edition → ℕ → List ℕ → List ℕ → List Reason
+inverseTable e n C out = orderTable (sizedN? e n) n C ((length out, n) ∷ [])
+
+abbrev pub moverTable : Edition → ℕ → List ℕ → List ℕ → List ℕ → List Reason
+moverTable e n C frame out = orderTable (sizedN? e n) n C ((length frame, 2 ^ n) ∷ (length out, 2 ^ n) ∷ [])

@@ -1,0 +1,208 @@
+// Orders: the check that every tool makes of one, the inverse, and the mover.
+ghost use mathlib.Core.Path.{_≡_};
+ghost use mathlib.Core.List.{[], _∷_};
+ghost use Prim.Native.Nat.{_^_, _≤_};
+ghost use Rattle.kinds.specs.Answers.{Says};
+ghost use Rattle.kinds.specs.Edition.{edition1, sizedN?, sized?};
+ghost use Rattle.kinds.specs.Reasons.{RightLengths};
+ghost use Rattle.span.specs.Take.{room};
+ghost use Rattle.order.specs.Order.{Moved};
+ghost use Rattle.order.specs.Table.{ColumnTooLarge};
+ghost use Rattle.order.specs.Tools.{Checks, Inverts, Moves};
+ghost use Rattle.order.specs.Inside.{Few, Scans, ChecksColumns, UndoesHeld, Steps, Frames};
+use kinds::Answer;
+use kinds::Refusal;
+use span::Scan;
+
+// Of an order without k: 1 to 4. `fits` says whether every other length that the tool was lent is right.
+pub fn check(n: u32, columns: &[u16], fits: bool) -> Answer
+    ensures { λ r. ⌜ Checks (sizedN? edition1 n) n (now (columns .entry)) fits r ⌝ }
+{
+    if !kinds::sized_n(n) {
+        return Answer::Refused(Refusal::Sizes);
+    }
+    let checked = check_columns(n, columns, fits);
+    checked.answer
+}
+
+// Of an order with k: 1 to 4.
+pub fn check_with_k(n: u32, k: u32, columns: &[u16], fits: bool) -> Answer
+    ensures { λ r. ⌜ Checks (sized? edition1 n k) n (now (columns .entry)) fits r ⌝ }
+{
+    if !kinds::sized(n, k) {
+        return Answer::Refused(Refusal::Sizes);
+    }
+    let checked = check_columns(n, columns, fits);
+    checked.answer
+}
+
+struct Checked {
+    answer: Answer,
+    scan: Scan,
+}
+
+// 2 to 4, with the scan of the columns where none applies.
+fn check_columns(n: u32, columns: &[u16], fits: bool) -> Checked
+    requires { ⌜ n ≤ room ⌝ }
+    ensures { λ r. ⌜ ChecksColumns n (now (columns .entry)) fits r ⌝ }
+{
+    if !fits {
+        return refused(Refusal::Length);
+    }
+    if columns.len() != n as usize {
+        return refused(Refusal::Length);
+    }
+    if too_large(n, columns) {
+        return refused(Refusal::TooLarge);
+    }
+    let scanned = scan_columns(columns);
+    if !scanned.independent {
+        return refused(Refusal::Dependent);
+    }
+    let scan = scanned.scan;
+    Checked {
+        answer: Answer::Done,
+        scan,
+    }
+}
+
+fn refused(refusal: Refusal) -> Checked
+    ensures { λ r. ⌜ r .answer ≡ Answer.Refused refusal ⌝ }
+{
+    Checked {
+        answer: Answer::Refused(refusal),
+        scan: Scan::new(),
+    }
+}
+
+fn too_large(n: u32, columns: &[u16]) -> bool
+    requires { ⌜ n ≤ room ⌝ }
+    ensures { λ r. ⌜ Says r (ColumnTooLarge n (now (columns .entry))) ⌝ }
+{
+    let bound = bits::two_to(n);
+    let mut j = 0;
+    while j < columns.len() {
+        if bound <= columns[j] as u32 {
+            return true;
+        }
+        j += 1;
+    }
+    false
+}
+
+struct Scanned {
+    scan: Scan,
+    independent: bool,
+}
+
+// Scans up to the first column that is a sum of those before it.
+fn scan_columns(columns: &[u16]) -> Scanned
+    requires { ⌜ Few (now columns) ⌝ }
+    ensures { λ r. ⌜ Scans (now (columns .entry)) r ⌝ }
+{
+    let mut scan = Scan::new();
+    let mut j = 0;
+    while j < columns.len() {
+        let taken = scan.take(columns[j]);
+        if !taken.kept {
+            return Scanned {
+                scan,
+                independent: false,
+            };
+        }
+        scan = taken.scan;
+        j += 1;
+    }
+    Scanned {
+        scan,
+        independent: true,
+    }
+}
+
+// The columns of the order that brings every word home. 1 to 4.
+pub fn inverse(n: u32, columns: &[u16], out: &mut [u16]) -> Answer
+    ensures { λ r. ⌜ Inverts edition1 n (now (columns .entry)) (now (out .entry)) (now (out .exit)) r ⌝ }
+{
+    if !kinds::sized_n(n) {
+        return Answer::Refused(Refusal::Sizes);
+    }
+    let fits = out.len() == n as usize;
+    let checked = check_columns(n, columns, fits);
+    let answer = checked.answer;
+    let Answer::Done = answer else {
+        return answer;
+    };
+    let scan = checked.scan;
+    write_inverse(scan, out);
+    Answer::Done
+}
+
+// Column b of the inverse is the mask of 2^b.
+fn write_inverse(scan: Scan, out: &mut [u16])
+    requires { ⌜ Few (now out) ⌝ }
+    ensures { λ r. ⌜ UndoesHeld scan (now (out .entry)) (now (out .exit)) ⌝ }
+{
+    let mut b = 0;
+    while b < out.len() {
+        let unit = bits::two_to(b as u32) as u16;
+        out[b] = scan.mask_of(unit);
+        b += 1;
+    }
+}
+
+// The frame in order, in a second buffer. 1 to 4.
+pub fn move_frame(n: u32, columns: &[u16], frame: &[u32], out: &mut [u32]) -> Answer
+    ensures { λ r. ⌜ Moves edition1 n (now (columns .entry)) (now (frame .entry)) (now (out .entry)) (now (out .exit)) r ⌝ }
+{
+    let fits = are_frames(n, frame.len(), out.len());
+    let answer = check(n, columns, fits);
+    let Answer::Done = answer else {
+        return answer;
+    };
+    move_words(n, columns, frame, out);
+    Answer::Done
+}
+
+fn are_frames(n: u32, came: usize, leaves: usize) -> bool
+    ensures { λ r. ⌜ Says r (RightLengths ((came, 2 ^ n) ∷ (leaves, 2 ^ n) ∷ [])) ⌝ }
+{
+    if 64 <= n {
+        return false;
+    }
+    let words = 1usize << n;
+    if came != words {
+        return false;
+    }
+    leaves == words
+}
+
+// From each number to the next the place changes by one step.
+fn move_words(n: u32, columns: &[u16], frame: &[u32], out: &mut [u32])
+    requires { ⌜ Frames n (now columns) (now frame) (now out) ⌝ }
+    ensures { λ r. ⌜ Moved n (now (columns .entry)) (now (frame .entry)) (now (out .exit)) ⌝ }
+{
+    let steps = steps_of(columns);
+    let mut place = 0;
+    let mut i = 0;
+    while i < frame.len() {
+        out[place as usize] = frame[i];
+        i += 1;
+        let next = u64::trailing_zeros(i as u64) as usize;
+        place = place ^ steps[next];
+    }
+}
+
+fn steps_of(columns: &[u16]) -> [u16; 17]
+    requires { ⌜ Few (now columns) ⌝ }
+    ensures { λ r. ⌜ Steps (now (columns .entry)) r ⌝ }
+{
+    let mut steps = [0; 17];
+    let mut sum = 0;
+    let mut j = 0;
+    while j < columns.len() {
+        sum = sum ^ columns[j];
+        steps[j] = sum;
+        j += 1;
+    }
+    steps
+}

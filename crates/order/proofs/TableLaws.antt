@@ -4,10 +4,10 @@
 --   within-sizes     sizes that are not leave 2 to 4 to decide
 --   order-ascending  its numbers go up, so the first that applies is the lowest
 --   order-sound      none applies exactly when the sizes are right, every lent length is, and the columns are an order
-use Prim.Native.Nat.{ℕ, _^_, _<_}
+use Prim.Native.Nat.{ℕ, _^_}
 use mathlib.Core.Path.{_≡_, sym, _∙_}
 use mathlib.Core.Bool.{Bool}
-use mathlib.Core.List.{List, [], _∷_}
+use mathlib.Core.List.{List, _∷_}
 use mathlib.Core.Logic.{_↔_}
 use mathlib.Core.Option.{none}
 use native.Mathlib.Decide.{decLt}

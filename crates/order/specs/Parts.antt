@@ -1,10 +1,13 @@
 -- The four parts of an order (01): "P1 sends port bits to port bits, P2 tick bits to port bits, P3 port bits to tick bits, P4 tick bits to tick bits."
---   P1 k C p, P2 k C c     the port of the place at which the word with port bits p alone, or tick bits c alone, leaves
---   P3 k C p, P4 k C c     the tick of that place
---   rowsOf m l f           the m rows of the map f of l bits: "row r of a part is bit r of its result"
+--   P1 k C p      the port at which the word of tick 0 and port p leaves
+--   P2 k C c      the port at which the word of tick c and port 0 leaves
+--   P3 k C p      the tick at which the word of tick 0 and port p leaves
+--   P4 k C c      the tick at which the word of tick c and port 0 leaves
+--   rowsOf m l f  the m rows of the linear map f of l bits: "row r of a part is bit r of its result"
+--   rowsP1 k C, rowsP2 n k C, rowsP3 n k C, rowsP4 n k C     the rows of each part
 use Prim.Native.Nat.{ℕ}
 use mathlib.Core.List.{List}
-use Rattle.kinds.specs.Frame.{tickOf, portOf, wordAt}
+use Rattle.kinds.specs.Frame.{ticks, tickOf, portOf, wordAt}
 use Rattle.bits.specs.Image.{columns}
 use Rattle.span.specs.Rows.{rows}
 use Rattle.order.specs.Order.{place}
@@ -23,3 +26,15 @@ P4 k C c = tickOf k (place C (wordAt k c 0))
 
 abbrev pub rowsOf : ℕ → ℕ → (ℕ → ℕ) → List ℕ
 rowsOf m l f = rows m (columns l f)
+
+abbrev pub rowsP1 : ℕ → List ℕ → List ℕ
+rowsP1 k C = rowsOf k k (P1 k C)
+
+abbrev pub rowsP2 : ℕ → ℕ → List ℕ → List ℕ
+rowsP2 n k C = rowsOf k (ticks n k) (P2 k C)
+
+abbrev pub rowsP3 : ℕ → ℕ → List ℕ → List ℕ
+rowsP3 n k C = rowsOf (ticks n k) k (P3 k C)
+
+abbrev pub rowsP4 : ℕ → ℕ → List ℕ → List ℕ
+rowsP4 n k C = rowsOf (ticks n k) (ticks n k) (P4 k C)

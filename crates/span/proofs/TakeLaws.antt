@@ -4,7 +4,7 @@
 --   asked          the mask of a sum of the numbers taken selects that sum from them
 use Prim.Native.Nat.{ℕ, suc, _+_, _^_, _<_}
 use mathlib.Core.Path.{_≡_, sym, ap, ap₂, _∙_}
-use mathlib.Core.Bool.{true, false}
+use mathlib.Core.Bool.{false}
 use mathlib.Core.List.{List, [], _∷_, _++_}
 use mathlib.Core.Logic.{_↔_, ⊎-elim}
 use native.Mathlib.Numerals.{add-one}

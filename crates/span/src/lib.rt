@@ -13,7 +13,7 @@ pub struct Scan {
 pub struct Taken {
     pub scan: Scan,
     pub kept: bool,
-    pub mask: u32,
+    pub mask: u16,
 }
 
 impl Scan {
@@ -38,13 +38,14 @@ impl Scan {
             self.count = count + 1;
             let entry = (v as u32) * 65536;
             let left = reduce(&self.entries, entry);
-            mask = left;
             if 65536 <= left {
                 let own = bits::two_to(count);
                 let z = u32::leading_zeros(left) as usize;
                 self.entries[z] = left ^ own;
                 kept = true;
-                mask = own;
+                mask = own as u16;
+            } else {
+                mask = left as u16;
             }
         }
         Taken {

@@ -1,5 +1,5 @@
 -- `order::are_frames` meets its contract. No length of 64 bits is 2^64 or more.
-use Prim.Native.Nat.{ℕ, _^_, _*_, _%_, _<_, _≤_}
+use Prim.Native.Nat.{ℕ, _^_, _*_, _%_, _<_}
 use mathlib.Core.Path.{_≡_, sym, _∙_}
 use borrow.Author.Needs.{needs}
 use borrow.Author.Tests.{eqb-true, eq-eqb}

@@ -1,6 +1,5 @@
 -- `order::too_large` meets its contract. Invariant: no column passed is too large.
-use Prim.Native.Nat.{ℕ, _+_, _-_, _^_, _<_, _≤_}
-use mathlib.Core.Path.{_≡_, refl}
+use Prim.Native.Nat.{ℕ, _+_, _-_, _<_, _≤_}
 use mathlib.Core.List.{List}
 use borrow.Author.Count.{below-none, below-more}
 use borrow.Author.Needs.{needs}

@@ -1,7 +1,7 @@
 -- `span::Scan::mask_of` meets its contract. A row that is left is that of no sum; where only a mask is left, that is the number's.
 use Prim.Native.Nat.{ℕ, _*_, _^_, _≤_, _<_}
 use borrow.Author.Needs.{needs}
-use mathlib.Core.Path.{_≡_, refl}
+use mathlib.Core.Path.{refl}
 use mathlib.Core.List.{List}
 use lib.Bits.{xor-shifted}
 use Rattle.span.specs.Held.{width, entry, Made, Holds, Reduces}

@@ -8,6 +8,7 @@ use borrow.Author.Needs.{needs}
 use lib.Bits.{bitXor, xor-shifted}
 use lib.Count.{leadingZeros}
 use lib.ListN.{set}
+use lib.Pow.{pow-lt}
 use Rattle.kinds.proofs.TruthLaws.{false≢true}
 use Rattle.span.specs.Held.{width, entry, Made, Reduces}
 use Rattle.span.specs.Take.{room, Takes}
@@ -80,6 +81,14 @@ mul-self c = omega (arith, place c)
 element-write-self : tie.Need-element-write-self
 element-write-self c = place c
 
+cast-mask : tie.Need-cast-mask
+cast-mask c =
+    let start = c .before .before .before .before .before .before in
+    omega (arith, c .two-to .ensures, pow-lt {i = start .args .t1 .count} {j = width} (omega arith))
+
+cast-mask-2 : tie.Need-cast-mask-2
+cast-mask-2 c = search needs
+
 returns : tie.Need-returns
 returns c =
     let start = c .before .before .before .before .before .before in
@@ -105,6 +114,8 @@ take-spec =
     cast-z
     mul-self
     element-write-self
+    cast-mask
+    cast-mask-2
     returns
     returns-2
     returns-3)

@@ -1,0 +1,93 @@
+-- The four parts make up the order, and each is known by its rows.
+--   P1-linear .. P4-linear each part is linear
+--   P1-into .. P4-into     and sends port bits or tick bits to port bits or tick bits
+--   place-parts            where the word at tick c and port p leaves: the parts of c and the parts of p together
+--   rowsOf-dot             row r of a linear map is bit r of its result
+use Prim.Native.Nat.{ℕ, _+_, _-_, _^_, _<_, _≤_}
+use mathlib.Core.Path.{_≡_, sym, ap, ap₂, _∙_}
+use mathlib.Core.List.{List}
+use native.Mathlib.Nat.{mod-lt}
+use native.Mathlib.Omega.{arith}
+use lib.Bits.{bitXor, xor-zero-r, xor-block, xor-shr, xor-mod}
+use lib.ListN.{getD}
+use lib.Pow.{pow-pos, pow-lt, shr-lt, split}
+use Rattle.kinds.specs.Frame.{ticks, tickOf, portOf, wordAt}
+use Rattle.bits.specs.Image.{Linear, columns}
+use Rattle.bits.specs.Parity.{bit, dot}
+use Rattle.bits.proofs.ImageLaws.{image-xor, image-lt, linear-image, columns-below}
+use Rattle.span.specs.Maps.{Into}
+use Rattle.span.proofs.RowLaws.{row-dot}
+use Rattle.order.specs.Order.{place, Order}
+use Rattle.order.specs.Parts.{P1, P2, P3, P4, rowsOf}
+
+port-linear : (k : ℕ) (f : ℕ → ℕ) → Linear f → Linear (λ x. portOf k (f x))
+port-linear k f l x y = ap (portOf k) (l x y) ∙ xor-mod (f x) (f y) k
+
+tick-linear : (k : ℕ) (f : ℕ → ℕ) → Linear f → Linear (λ x. tickOf k (f x))
+tick-linear k f l x y = ap (tickOf k) (l x y) ∙ xor-shr (f x) (f y) k
+
+at-port : (k p : ℕ) → wordAt k 0 p ≡ p
+at-port k p = omega arith
+
+by-halves : (k a b : ℕ) → bitXor a b ≡ wordAt k (bitXor (tickOf k a) (tickOf k b)) (bitXor (portOf k a) (portOf k b))
+by-halves k a b =
+    sym (ap₂ bitXor (split a k) (split b k))
+    ∙ xor-block k (tickOf k a) (tickOf k b) (portOf k a) (portOf k b) (mod-lt a (pow-pos k)) (mod-lt b (pow-pos k))
+
+module _ (k : ℕ) (C : List ℕ) where
+  abbrev of-port : ℕ → ℕ
+  of-port p = place C (wordAt k 0 p)
+
+  abbrev of-tick : ℕ → ℕ
+  of-tick c = place C (wordAt k c 0)
+
+  of-port-linear : Linear of-port
+  of-port-linear p q = rw (at-port k (bitXor p q), at-port k p, at-port k q) (image-xor C p q)
+
+  of-tick-linear : Linear of-tick
+  of-tick-linear c d =
+      ap (place C) (sym (xor-block k c d 0 0 (pow-pos k) (pow-pos k))) ∙ image-xor C (wordAt k c 0) (wordAt k d 0)
+
+  pub P1-linear : Linear (P1 k C)
+  P1-linear = port-linear k of-port of-port-linear
+
+  pub P2-linear : Linear (P2 k C)
+  P2-linear = port-linear k of-tick of-tick-linear
+
+  pub P3-linear : Linear (P3 k C)
+  P3-linear = tick-linear k of-port of-port-linear
+
+  pub P4-linear : Linear (P4 k C)
+  P4-linear = tick-linear k of-tick of-tick-linear
+
+  pub place-parts : (c p : ℕ) → p < 2 ^ k
+      → place C (wordAt k c p) ≡ wordAt k (bitXor (P4 k C c) (P3 k C p)) (bitXor (P2 k C c) (P1 k C p))
+  place-parts c p h =
+      ap (λ (x : ℕ). place C (wordAt k x p)) (sym (xor-zero-r c))
+      ∙ ap (place C) (sym (xor-block k c 0 0 p (pow-pos k) h))
+      ∙ image-xor C (wordAt k c 0) (wordAt k 0 p)
+      ∙ by-halves k (of-tick c) (of-port p)
+
+  pub P1-into : (a : ℕ) → Into (P1 k C) a (2 ^ k)
+  P1-into a p h = mod-lt (of-port p) (pow-pos k)
+
+  pub P2-into : (a : ℕ) → Into (P2 k C) a (2 ^ k)
+  P2-into a c h = mod-lt (of-tick c) (pow-pos k)
+
+  module _ {n : ℕ} (o : Order n C) (within : k ≤ n) where
+    early : (x : ℕ) → tickOf k (place C x) < 2 ^ ticks n k
+    early x =
+        let all : ticks n k + k ≡ n = omega arith in
+        shr-lt (ticks n k) k (rw all (image-lt n C (o .below) x))
+
+    pub P3-into : (a : ℕ) → Into (P3 k C) a (2 ^ ticks n k)
+    P3-into a p h = early (wordAt k 0 p)
+
+    pub P4-into : (a : ℕ) → Into (P4 k C) a (2 ^ ticks n k)
+    P4-into a c h = early (wordAt k c 0)
+
+pub rowsOf-dot : (m l : ℕ) (f : ℕ → ℕ) → Linear f → Into f (2 ^ l) (2 ^ m) → (r x : ℕ) → r < m → x < 2 ^ l
+    → dot (getD (rowsOf m l f) r 0) x ≡ bit r (f x)
+rowsOf-dot m l f linear into r x h b =
+    row-dot m (columns l f) (columns-below l (2 ^ m) f (λ j g. into (2 ^ j) (pow-lt g))) x r h
+    ∙ ap (bit r) (sym (linear-image l f linear x b))

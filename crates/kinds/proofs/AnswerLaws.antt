@@ -4,7 +4,8 @@
 --   does              an answer that is none, and what it leaves
 --   answers-done      where no reason applies, a tool has done its work
 --   answers-same      two right answers are the same
-use mathlib.Core.Path.{_≡_, refl, sym, _∙_}
+--   answers-agree     so two tools with one table were both done, or were both refused
+use mathlib.Core.Path.{_≡_, refl, sym, ap, _∙_}
 use mathlib.Core.List.{List}
 use mathlib.Core.Option.{none}
 use Prim.Native.Nat.{ℕ}
@@ -40,5 +41,13 @@ module _ {t : List Reason} {D K : Type 0} where
   pub answers-done : {r : Answer} → lowest t ≡ none → Answers t r D K → r ≡ Done
   answers-done {r} e a = said-same r Done (a .lowest-of ∙ e)
 
-pub answers-same : {t : List Reason} {D K E L : Type 0} {r s : Answer} → Answers t r D K → Answers t s E L → r ≡ s
-answers-same {r = r} {s} a b = said-same r s (a .lowest-of ∙ sym (b .lowest-of))
+module _ {t : List Reason} {D K E L : Type 0} {r s : Answer} (a : Answers t r D K) (b : Answers t s E L) where
+  pub answers-same : r ≡ s
+  answers-same = said-same r s (a .lowest-of ∙ sym (b .lowest-of))
+
+  pub answers-agree : {X : Type 0} → (lowest t ≡ none → D → E → X) → (K → L → X) → X
+  answers-agree {X} done kept = go r refl
+    where
+      go : (q : Answer) → r ≡ q → X
+      go Done e = done (sym (a .lowest-of) ∙ ap said e) (a .done e) (b .done (sym answers-same ∙ e))
+      go (Refused x) e = kept (a .refused x e) (b .refused x (sym answers-same ∙ e))

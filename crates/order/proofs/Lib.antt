@@ -3,3 +3,5 @@ pub mod OrderLaws
 pub mod PartLaws
 pub mod MoveLaws
 pub mod TableLaws
+pub mod ToolLaws
+pub mod Cases

@@ -134,7 +134,7 @@ pub fn inverse(n: u32, columns: &[u16], out: &mut [u16]) -> Answer
     };
     let scan = checked.scan;
     write_inverse(scan, out);
-    Answer::Done
+    answer
 }
 
 // Column b of the inverse is the mask of 2^b.
@@ -145,7 +145,8 @@ fn write_inverse(scan: Scan, out: &mut [u16])
     let mut b = 0;
     while b < out.len() {
         let unit = bits::two_to(b as u32) as u16;
-        out[b] = scan.mask_of(unit);
+        let mask = scan.mask_of(unit);
+        out[b] = mask;
         b += 1;
     }
 }
@@ -155,12 +156,12 @@ pub fn move_frame(n: u32, columns: &[u16], frame: &[u32], out: &mut [u32]) -> An
     ensures { λ r. ⌜ Moves edition1 n (now (columns .entry)) (now (frame .entry)) (now (out .entry)) (now (out .exit)) r ⌝ }
 {
     let fits = are_frames(n, frame.len(), out.len());
-    let answer = check(n, columns, fits);
-    let Answer::Done = answer else {
-        return answer;
+    let checked = check(n, columns, fits);
+    let Answer::Done = checked else {
+        return checked;
     };
     move_words(n, columns, frame, out);
-    Answer::Done
+    checked
 }
 
 fn are_frames(n: u32, came: usize, leaves: usize) -> bool
@@ -185,7 +186,8 @@ fn move_words(n: u32, columns: &[u16], frame: &[u32], out: &mut [u32])
     let mut place = 0;
     let mut i = 0;
     while i < frame.len() {
-        out[place as usize] = frame[i];
+        let at = place as usize;
+        out[at] = frame[i];
         i += 1;
         let next = u64::trailing_zeros(i as u64) as usize;
         place = place ^ steps[next];

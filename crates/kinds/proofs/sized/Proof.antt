@@ -1,3 +1,4 @@
+-- `kinds::sized` meets its contract.
 use borrow.Author.Needs.{needs}
 use borrow.Author.Tests.{leb-true, le-leb, not-true, not-false}
 use native.Mathlib.Omega.{arith}

@@ -1,3 +1,4 @@
+-- `kinds::sized_n` meets its contract.
 use borrow.Author.Tests.{leb-true, le-leb}
 use native.Mathlib.Omega.{arith}
 use Rattle.kinds.proofs.TruthLaws.{says-no}

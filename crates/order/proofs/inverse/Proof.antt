@@ -2,7 +2,6 @@
 use Prim.Native.Nat.{ℕ}
 use mathlib.Core.Path.{_≡_, refl, sym, ap, _∙_}
 use mathlib.Core.List.{List, [], _∷_}
-use mathlib.Core.Option.{none}
 use native.Mathlib.Omega.{arith}
 use borrow.Author.Needs.{needs}
 use borrow.Author.Tests.{not-true, not-false, eqb-true, eq-eqb}
@@ -63,11 +62,8 @@ module _ (c : tie.After-check-columns) where
   says = within-sizes (sizedN? edition1 n) n columns _ sized (c .check-columns .ensures) ((length out, n) ∷ []) (fits (length out) n)
 
   module _ (e : c .check-columns .result .answer ≡ Done) where
-    none-applies : none ≡ lowest (inverseTable edition1 n columns out)
-    none-applies = ap said (sym e) ∙ says
-
     right : length out ≡ n
-    right = order-sound (sizedN? edition1 n) n columns ((length out, n) ∷ []) .0 (sym none-applies) .1 .0
+    right = order-sound (sizedN? edition1 n) n columns ((length out, n) ∷ []) .0 (sym says ∙ ap said e) .1 .0
 
 returns-2 : tie.Need-returns-2
 returns-2 c = refuses (c .enum-told2 .given .1) (says (c .before .before)) refl
@@ -84,7 +80,7 @@ returns-3 c =
     let checked = c .before .before .before .before .before .before .before in
     let done = c .before .before .before .before .before .enum-told .given .1 in
     let undone = c .before .before .write-inverse .ensures (columns checked) (checked .check-columns .ensures .holds done) in
-    does refl (none-applies checked done) (rw (right checked done) at undone (checked .check-columns .ensures .order done))
+    does done (says checked) (rw (right checked done) at undone (checked .check-columns .ensures .order done))
 
 pub inverse-spec : {M : Type 1} → statement M
 inverse-spec =

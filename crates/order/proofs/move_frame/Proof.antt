@@ -2,7 +2,6 @@
 use Prim.Native.Nat.{ℕ, _^_}
 use mathlib.Core.Path.{_≡_, refl, sym, ap, _∙_}
 use mathlib.Core.List.{List, [], _∷_}
-use mathlib.Core.Option.{none}
 use native.Mathlib.Omega.{arith}
 use borrow.Author.Needs.{needs}
 use lib.ListN.{length}
@@ -54,11 +53,8 @@ module _ (c : tie.After-check) where
   says = c .check .ensures lent (c .before .are-frames .ensures)
 
   module _ (e : c .check .result ≡ Done) where
-    none-applies : none ≡ lowest (moverTable edition1 n columns frame out)
-    none-applies = ap said (sym e) ∙ says
-
     sound : SizedN edition1 n × RightLengths lent × Order n columns
-    sound = order-sound (sizedN? edition1 n) n columns lent .0 (sym none-applies)
+    sound = order-sound (sizedN? edition1 n) n columns lent .0 (sym says ∙ ap said e)
 
     frames : Frames n columns frame out
     frames = record {
@@ -80,7 +76,7 @@ same-length c = search needs
 returns-2 : tie.Need-returns-2
 returns-2 c =
     let told = c .before .before .before .before in
-    does refl (none-applies (told .before .before) (told .enum-told .given .1)) (c .before .before .move-words .ensures)
+    does (told .enum-told .given .1) (says (told .before .before)) (c .before .before .move-words .ensures)
 
 pub move-frame-spec : {M : Type 1} → statement M
 move-frame-spec =

@@ -89,14 +89,14 @@ steps-of-requires c κs = search needs
 loop-holds : tie.Need-loop-holds Inv-loop μ-loop
 loop-holds c = start (c .before .before .before .before .pre) (c .steps-of .ensures)
 
+cast-at : tie.Need-cast-at Inv-loop μ-loop
+cast-at c = omega (arith, target (c .before .loop .inv) (c .loop-test .taken))
+
 mul-out : tie.Need-mul-out Inv-loop μ-loop
 mul-out c = search needs
 
 shared-slice-read-out : tie.Need-shared-slice-read-out Inv-loop μ-loop
 shared-slice-read-out c = search needs
-
-cast-out : tie.Need-cast-out Inv-loop μ-loop
-cast-out c = omega (arith, target (c .before .before .loop .inv) (c .before .loop-test .taken))
 
 mul-out-2 : tie.Need-mul-out-2 Inv-loop μ-loop
 mul-out-2 c = omega (arith, target (c .before .before .loop .inv) (c .before .loop-test .taken))
@@ -136,9 +136,9 @@ move-words-spec =
     μ-loop
     steps-of-requires
     loop-holds
+    cast-at
     mul-out
     shared-slice-read-out
-    cast-out
     mul-out-2
     slice-write-out
     add-i

@@ -1,0 +1,65 @@
+-- The meanings on small cases of 01. Gray code at n 3 (columns 1 3 6) is undone by 1 3 7 and not by itself; bit reversal (4 2 1) is undone by itself.
+-- Columns 4 4 at n 2 give 3, columns 1 1 and a column 0 give 4, a column 2 at n 1 gives 3; n 0, n 11 and n 4294967295 give 1, and so do k 0, k 6 and n 2 with k 3;
+-- a column too few, and an output too short, give 2, whatever the columns are. The parts of the order 2 4 8 1 at n 4, k 2, by their rows.
+use mathlib.Core.Path.{_≡_, refl}
+use mathlib.Core.List.{List, [], _∷_, map}
+use Prim.Native.Nat.{ℕ}
+use native.Mathlib.Decide.{ℕ-discrete, decLe}
+use lib.Count.{ones}
+use Rattle.kinds.specs.Edition.{edition1, sizedN?, sized?}
+use Rattle.kinds.specs.Refusal.{given}
+use Rattle.kinds.specs.Lowest.{lowest}
+use Rattle.kinds.specs.Reasons.{rightLengths?}
+use Rattle.bits.specs.Image.{image, columns}
+use Rattle.bits.specs.Parity.{parity, dot}
+use Rattle.span.specs.Search.{someBelow}
+use Rattle.span.specs.Sums.{independent?}
+use Rattle.span.specs.Rows.{dots, rows}
+use Rattle.order.specs.Order.{place}
+use Rattle.order.specs.Parts.{rowsP1, rowsP2, rowsP3, rowsP4}
+use Rattle.order.specs.Table.{orderTable, inverseTable, moverTable}
+
+abbrev words : List ℕ
+words = 0 ∷ 1 ∷ 2 ∷ 3 ∷ 4 ∷ 5 ∷ 6 ∷ 7 ∷ []
+
+abbrev after : List ℕ → List ℕ → List ℕ
+after D C = map (λ i. place D (place C i)) words
+
+abbrev gray : List ℕ
+gray = 1 ∷ 3 ∷ 6 ∷ []
+
+undone : (after (1 ∷ 3 ∷ 7 ∷ []) gray ≡ words)
+    × (after gray (1 ∷ 3 ∷ 7 ∷ []) ≡ words)
+    × (after gray gray ≡ 0 ∷ 1 ∷ 2 ∷ 3 ∷ 5 ∷ 4 ∷ 7 ∷ 6 ∷ [])
+    × (after (4 ∷ 2 ∷ 1 ∷ []) (4 ∷ 2 ∷ 1 ∷ []) ≡ words)
+unfolding image
+undone = (refl, refl, refl, refl)
+
+refused : map (λ (n, C, out). given (lowest (inverseTable edition1 n C out))) (
+    (2, 4 ∷ 4 ∷ [], 0 ∷ 0 ∷ [])
+    ∷ (2, 1 ∷ 1 ∷ [], 0 ∷ 0 ∷ [])
+    ∷ (1, 0 ∷ [], 0 ∷ [])
+    ∷ (1, 2 ∷ [], 0 ∷ [])
+    ∷ (2, 2 ∷ 1 ∷ [], 0 ∷ 0 ∷ [])
+    ∷ (2, 4 ∷ [], 0 ∷ 0 ∷ [])
+    ∷ (2, 4 ∷ 4 ∷ [], 0 ∷ [])
+    ∷ (0, [], [])
+    ∷ (11, [], [])
+    ∷ (4294967295, [], [])
+    ∷ []
+    ) ≡ 3 ∷ 4 ∷ 4 ∷ 3 ∷ 0 ∷ 2 ∷ 2 ∷ 1 ∷ 1 ∷ 1 ∷ []
+unfolding image lowest sizedN? decLe rightLengths? ℕ-discrete someBelow independent?
+refused = refl
+
+refused-with-k : map (λ (n, k). given (lowest (orderTable (sized? edition1 n k) n [] []))) (
+    (10, 5) ∷ (10, 6) ∷ (10, 0) ∷ (2, 3) ∷ (11, 5) ∷ []
+    ) ≡ 2 ∷ 1 ∷ 1 ∷ 1 ∷ 1 ∷ []
+unfolding image lowest sizedN? sized? decLe rightLengths? ℕ-discrete someBelow independent?
+refused-with-k = refl
+
+abbrev stride : List ℕ
+stride = 2 ∷ 4 ∷ 8 ∷ 1 ∷ []
+
+parts : (rowsP1 2 stride ≡ 0 ∷ 1 ∷ []) × (rowsP2 4 2 stride ≡ 2 ∷ 0 ∷ []) × (rowsP3 4 2 stride ≡ 2 ∷ 0 ∷ []) × (rowsP4 4 2 stride ≡ 0 ∷ 1 ∷ [])
+unfolding image columns rows dots dot parity ones
+parts = (refl, refl, refl, refl)

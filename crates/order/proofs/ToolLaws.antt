@@ -1,0 +1,85 @@
+-- What follows from the tools' contracts alone.
+--   moved-and-back      a frame moved by an order and then by its inverse is the frame; neither the inverse nor the second move is refused
+--   back-and-moved      a frame moved by the inverse and then by the order is the frame too
+--   inverts-unique      the inverse has one answer, and leaves one content
+--   moves-unique        so has the mover
+--   checks-unique       so has the check
+use Prim.Native.Nat.{ℕ, _^_}
+use mathlib.Core.Path.{_≡_, sym, ap, _∙_}
+use mathlib.Core.Bool.{Bool, true, false}
+use mathlib.Core.List.{List, [], _∷_}
+use mathlib.Core.Option.{none}
+use native.Mathlib.Omega.{arith}
+use lib.ListN.{length}
+use Rattle.kinds.specs.Edition.{Edition, SizedN, sizedN?}
+use Rattle.kinds.specs.Refusal.{said}
+use Rattle.kinds.specs.Lowest.{lowest}
+use Rattle.kinds.specs.Reasons.{RightLengths}
+use Rattle.kinds.specs.Answers.{Says}
+use Rattle.kinds.specs.declared.Answer.{Answer}
+use Rattle.kinds.specs.declared.Answer.the-variants.{Done}
+use Rattle.kinds.proofs.TruthLaws.{says-no, says-yes}
+use Rattle.kinds.proofs.AnswerLaws.{said-same, answers-done, answers-same, answers-agree}
+use Rattle.order.specs.Order.{Order, Undoes}
+use Rattle.order.specs.Table.{inverseTable, moverTable}
+use Rattle.order.specs.Tools.{Checks, Inverts, Moves}
+use Rattle.order.proofs.OrderLaws.{undoes-order, undoes-sym, undoes-unique}
+use Rattle.order.proofs.MoveLaws.{moved-unique, moved-home}
+use Rattle.order.proofs.TableLaws.{order-sound}
+
+-- what a tool that was done shows: the sizes, the length it was lent first, and the order
+module _ (e : Edition) (n : ℕ) (C : List ℕ) where
+  inverse-sound : (out : List ℕ) → lowest (inverseTable e n C out) ≡ none → SizedN e n × (length out ≡ n) × Order n C
+  inverse-sound out l = let s = order-sound (sizedN? e n) n C ((length out, n) ∷ []) .0 l in (s .0, s .1 .0, s .2)
+
+  mover-sound : (frame out : List ℕ) → lowest (moverTable e n C frame out) ≡ none → SizedN e n × (length frame ≡ 2 ^ n) × Order n C
+  mover-sound frame out l =
+      let s = order-sound (sizedN? e n) n C ((length frame, 2 ^ n) ∷ (length out, 2 ^ n) ∷ []) .0 l in (s .0, s .1 .0, s .2)
+
+  mover-done : (frame out moved : List ℕ) (r : Answer) → SizedN e n → Order n C → length frame ≡ 2 ^ n → length out ≡ 2 ^ n
+      → Moves e n C frame out moved r → r ≡ Done
+  mover-done frame out moved r s o f g =
+      answers-done (order-sound (sizedN? e n) n C ((length frame, 2 ^ n) ∷ (length out, 2 ^ n) ∷ []) .1 (s, (f, (g, tt)), o))
+
+  pub inverts-unique : (out a b : List ℕ) (r s : Answer) → Inverts e n C out a r → Inverts e n C out b s → (r ≡ s) × (a ≡ b)
+  inverts-unique out a b r s p q = (
+    answers-same p q,
+    answers-agree p q (λ l u w. undoes-unique (inverse-sound out l .2) u w) (λ k l. k ∙ sym l),
+  )
+
+  pub moves-unique : (frame out a b : List ℕ) (r s : Answer) → Moves e n C frame out a r → Moves e n C frame out b s → (r ≡ s) × (a ≡ b)
+  moves-unique frame out a b r s p q = (
+    answers-same p q,
+    answers-agree p q (λ l u w. moved-unique (mover-sound frame out l .2) u w) (λ k l. k ∙ sym l),
+  )
+
+-- a frame that was moved by one order comes home by one that undoes it
+round : (e : Edition) (n : ℕ) (C D frame out moved buffer home : List ℕ) (r s : Answer) → Undoes n C D → length buffer ≡ 2 ^ n
+    → r ≡ Done → Moves e n C frame out moved r → Moves e n D moved buffer home s → (s ≡ Done) × (home ≡ frame)
+round e n C D frame out moved buffer home r s u l d there back =
+    let (sized, whole, o) = mover-sound e n C frame out (sym (there .lowest-of) ∙ ap said d) in
+    let m = there .done d in
+    let done = mover-done e n D moved buffer home s sized (undoes-order o u) (m .whole) l back in
+    (done, moved-home o u whole m (back .done done))
+
+module _ (e : Edition) (n : ℕ) (C D frame out moved inverse buffer home : List ℕ) (r q s : Answer) (l : length buffer ≡ 2 ^ n)
+    (d : r ≡ Done) (undo : Inverts e n C inverse D q) where
+  pub moved-and-back : length inverse ≡ n → Moves e n C frame out moved r → Moves e n D moved buffer home s
+      → (q ≡ Done) × (s ≡ Done) × (home ≡ frame)
+  moved-and-back i there back =
+      let (sized, whole, o) = mover-sound e n C frame out (sym (there .lowest-of) ∙ ap said d) in
+      let undone = answers-done (order-sound (sizedN? e n) n C ((length inverse, n) ∷ []) .1 (sized, (i, tt), o)) undo in
+      let (done, same) = round e n C D frame out moved buffer home r s (undo .done undone) l d there back in
+      (undone, done, same)
+
+  pub back-and-moved : q ≡ Done → Moves e n D frame out moved r → Moves e n C moved buffer home s → (s ≡ Done) × (home ≡ frame)
+  back-and-moved undone there back =
+      let o = inverse-sound e n C inverse (sym (undo .lowest-of) ∙ ap said undone) .2 in
+      round e n D C frame out moved buffer home r s (undoes-sym o (undo .done undone)) l d there back
+
+pub checks-unique : {S : Type 0} (sized : Dec S) (n : ℕ) (C : List ℕ) (fits : Bool) (r s : Answer)
+    → Checks sized n C fits r → Checks sized n C fits s → r ≡ s
+checks-unique sized n C true r s p q = said-same r s (p [] (says-yes tt) ∙ sym (q [] (says-yes tt)))
+checks-unique sized n C false r s p q =
+    let wrong : Says false (RightLengths ((0, 1) ∷ [])) = says-no (λ right. omega (arith, right .0)) in
+    said-same r s (p ((0, 1) ∷ []) wrong ∙ sym (q ((0, 1) ∷ []) wrong))

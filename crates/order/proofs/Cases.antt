@@ -1,6 +1,6 @@
 -- The meanings on small cases of 01. Gray code at n 3 (columns 1 3 6) is undone by 1 3 7 and not by itself; bit reversal (4 2 1) is undone by itself.
--- Columns 4 4 at n 2 give 3, columns 1 1 and a column 0 give 4, a column 2 at n 1 gives 3; n 0, n 11 and n 4294967295 give 1, and so do k 0, k 6 and n 2 with k 3;
--- a column too few, and an output too short, give 2, whatever the columns are. The parts of the order 2 4 8 1 at n 4, k 2, by their rows.
+-- Columns 4 4 at n 2 give 3, columns 1 1 give 4; n 0, n 11 and n 4294967295 give 1, and so do k 0, k 6 and n 2 with k 3; a column too few, and an output or a
+-- frame too short, give 2, whatever the columns are. The parts of the order 2 4 8 1 at n 4, k 2, by their rows.
 use mathlib.Core.Path.{_≡_, refl}
 use mathlib.Core.List.{List, [], _∷_, map}
 use Prim.Native.Nat.{ℕ}
@@ -38,8 +38,6 @@ undone = (refl, refl, refl, refl)
 refused : map (λ (n, C, out). given (lowest (inverseTable edition1 n C out))) (
     (2, 4 ∷ 4 ∷ [], 0 ∷ 0 ∷ [])
     ∷ (2, 1 ∷ 1 ∷ [], 0 ∷ 0 ∷ [])
-    ∷ (1, 0 ∷ [], 0 ∷ [])
-    ∷ (1, 2 ∷ [], 0 ∷ [])
     ∷ (2, 2 ∷ 1 ∷ [], 0 ∷ 0 ∷ [])
     ∷ (2, 4 ∷ [], 0 ∷ 0 ∷ [])
     ∷ (2, 4 ∷ 4 ∷ [], 0 ∷ [])
@@ -47,9 +45,15 @@ refused : map (λ (n, C, out). given (lowest (inverseTable edition1 n C out))) (
     ∷ (11, [], [])
     ∷ (4294967295, [], [])
     ∷ []
-    ) ≡ 3 ∷ 4 ∷ 4 ∷ 3 ∷ 0 ∷ 2 ∷ 2 ∷ 1 ∷ 1 ∷ 1 ∷ []
+    ) ≡ 3 ∷ 4 ∷ 0 ∷ 2 ∷ 2 ∷ 1 ∷ 1 ∷ 1 ∷ []
 unfolding image lowest sizedN? decLe rightLengths? ℕ-discrete someBelow independent?
 refused = refl
+
+refused-frames : map (λ (C, frame, out). given (lowest (moverTable edition1 1 C frame out))) (
+    (1 ∷ [], 7 ∷ 8 ∷ [], 0 ∷ 0 ∷ []) ∷ (2 ∷ [], 7 ∷ [], 0 ∷ 0 ∷ []) ∷ (0 ∷ [], 7 ∷ 8 ∷ [], 0 ∷ []) ∷ []
+    ) ≡ 0 ∷ 2 ∷ 2 ∷ []
+unfolding image lowest sizedN? decLe rightLengths? ℕ-discrete someBelow independent?
+refused-frames = refl
 
 refused-with-k : map (λ (n, k). given (lowest (orderTable (sized? edition1 n k) n [] []))) (
     (10, 5) ∷ (10, 6) ∷ (10, 0) ∷ (2, 3) ∷ (11, 5) ∷ []

@@ -1,5 +1,5 @@
 -- What a caller of `take` or `mask_of` reads off its promise.
---   next-unique    two right answers say the same
+--   next-unique, asks-unique    two right answers say the same
 --   TakenAt, take-at    the numbers of a list taken in order: what the answer says of number j of the list
 --   asked          the mask of a sum of the numbers taken selects that sum from them
 use Prim.Native.Nat.{ℕ, suc, _+_, _^_, _<_}
@@ -15,8 +15,8 @@ use Rattle.bits.specs.Image.{image}
 use Rattle.bits.proofs.ImageLaws.{image-prefix}
 use Rattle.kinds.specs.Answers.{Says}
 use Rattle.kinds.proofs.TruthLaws.{false≢true, says-same}
-use Rattle.span.specs.Sums.{SumOf}
-use Rattle.span.specs.Scan.{SumBefore, IsKept, mask}
+use Rattle.span.specs.Sums.{SumOf, sumOf?}
+use Rattle.span.specs.Scan.{SumBefore, IsKept, kept, mask}
 use Rattle.span.specs.Held.{Holds}
 use Rattle.span.specs.Take.{room, Next, Takes, Asks}
 use Rattle.span.specs.declared.Scan.{Scan}
@@ -29,6 +29,12 @@ use Rattle.span.proofs.SnocLaws.{next-at, SumBefore-snoc}
 
 pub next-unique : {vs : List ℕ} {v : ℕ} {r q : Taken} → Next vs v r → Next vs v q → (r .kept ≡ q .kept) × (r .mask ≡ q .mask)
 next-unique {r = r} {q} n m = (says-same (r .kept) (q .kept) (n .keeps) (m .keeps), n .masked ∙ sym (m .masked))
+
+pub asks-unique : {vs : List ℕ} {scan : Scan} {v r q : ℕ} → Holds scan vs → Asks scan v r → Asks scan v q → r ≡ q
+asks-unique {vs} {v = v} h a b = elim (sumOf? (kept vs) v) [
+  | yes s ↦ a .sum vs h s ∙ sym (b .sum vs h s)
+  | no n ↦ a .no-sum vs h n ∙ sym (b .no-sum vs h n)
+]
 
 pub record TakenAt (cs : List ℕ) (j : ℕ) (r : Taken) : Type 0 where
   pub holds : Holds (r .scan) (take (j + 1) cs)

@@ -3,7 +3,7 @@
 --   keptAt vs i          the positions kept among the first i numbers of vs, ascending
 --   withNext d ps i      the positions ps, and i after them unless d says that number i is a sum
 --   SumBefore vs i       number i of vs is a sum of those kept before it
---   IsKept vs i          it is none
+--   IsKept vs i          number i of vs is kept: it is no sum of those kept before it
 --   kept vs              the numbers kept
 --   rank vs              how many are kept
 --   units ps             2^p for each position p of ps

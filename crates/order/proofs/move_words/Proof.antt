@@ -93,16 +93,16 @@ cast-at : tie.Need-cast-at Inv-loop μ-loop
 cast-at c = omega (arith, target (c .before .loop .inv) (c .loop-test .taken))
 
 mul-out : tie.Need-mul-out Inv-loop μ-loop
-mul-out c = search needs
+mul-out c = omega (arith, target (c .before .loop .inv) (c .loop-test .taken))
 
 shared-slice-read-out : tie.Need-shared-slice-read-out Inv-loop μ-loop
-shared-slice-read-out c = search needs
+shared-slice-read-out c = omega (arith, target (c .before .before .loop .inv) (c .before .loop-test .taken))
 
 mul-out-2 : tie.Need-mul-out-2 Inv-loop μ-loop
 mul-out-2 c = omega (arith, target (c .before .before .loop .inv) (c .before .loop-test .taken))
 
 slice-write-out : tie.Need-slice-write-out Inv-loop μ-loop
-slice-write-out c = target (c .before .before .loop .inv) (c .before .loop-test .taken)
+slice-write-out c = omega (arith, target (c .before .before .loop .inv) (c .before .loop-test .taken))
 
 add-i : tie.Need-add-i Inv-loop μ-loop
 add-i c = search needs
@@ -114,7 +114,7 @@ mul-place : tie.Need-mul-place Inv-loop μ-loop
 mul-place c = omega (arith, next (c .before .before .loop .inv) (c .before .loop-test .taken))
 
 array-read-place : tie.Need-array-read-place Inv-loop μ-loop
-array-read-place c = next (c .before .before .loop .inv) (c .before .loop-test .taken)
+array-read-place c = omega (arith, next (c .before .before .loop .inv) (c .before .loop-test .taken))
 
 loop-less : tie.Need-loop-less Inv-loop μ-loop
 loop-less c = search needs

@@ -75,7 +75,7 @@ loop-less : tie.Need-loop-less Inv-loop μ-loop
 loop-less c = search needs
 
 loop-again : tie.Need-loop-again Inv-loop μ-loop
-loop-again c = more (c .before .before .before .loop .inv) (c .before .before .loop-test .taken) (c .before .two-to .ensures) (c .mask-of .ensures)
+loop-again c = more (c .before .before .before .loop .inv) (omega arith) (c .before .two-to .ensures) (c .mask-of .ensures)
 
 same-length : tie.Need-same-length Inv-loop μ-loop
 same-length c = c .before .loop .inv .same

@@ -2,6 +2,7 @@
 ghost use mathlib.Core.Path.{_≡_};
 ghost use mathlib.Core.List.{[], _∷_};
 ghost use Prim.Native.Nat.{_^_, _≤_};
+ghost use lib.ListN.{length};
 ghost use Rattle.kinds.specs.Answers.{Says};
 ghost use Rattle.kinds.specs.Edition.{edition1, sizedN?, sized?};
 ghost use Rattle.kinds.specs.Reasons.{RightLengths};
@@ -160,7 +161,7 @@ pub fn move_frame(n: u32, columns: &[u16], frame: &[u32], out: &mut [u32]) -> An
     let Answer::Done = checked else {
         return checked;
     };
-    move_words(n, columns, frame, out);
+    move_words(columns, frame, out);
     checked
 }
 
@@ -178,9 +179,9 @@ fn are_frames(n: u32, came: usize, leaves: usize) -> bool
 }
 
 // From each number to the next the place changes by one step.
-fn move_words(n: u32, columns: &[u16], frame: &[u32], out: &mut [u32])
-    requires { ⌜ Frames n (now columns) (now frame) (now out) ⌝ }
-    ensures { λ r. ⌜ Moved n (now (columns .entry)) (now (frame .entry)) (now (out .exit)) ⌝ }
+fn move_words(columns: &[u16], frame: &[u32], out: &mut [u32])
+    requires { ⌜ Frames (length (now columns)) (now columns) (now frame) (now out) ⌝ }
+    ensures { λ r. ⌜ Moved (length (now (columns .entry))) (now (columns .entry)) (now (frame .entry)) (now (out .exit)) ⌝ }
 {
     let steps = steps_of(columns);
     let mut place = 0;

@@ -56,13 +56,14 @@ module _ (c : tie.After-check) where
     sound : SizedN edition1 n × RightLengths lent × Order n columns
     sound = order-sound (sizedN? edition1 n) n columns lent .0 (sym says ∙ ap said e)
 
-    frames : Frames n columns frame out
-    frames = record {
-      few = omega (arith, sound .0 .most, sound .2 .count);
-      order = sound .2;
-      came = sound .1 .0;
-      leaves = sound .1 .1 .0;
-    }
+    frames : Frames (length columns) columns frame out
+    frames = rw (sound .2 .count) (
+        record {
+          few = omega (arith, sound .0 .most, sound .2 .count);
+          order = sound .2;
+          came = sound .1 .0;
+          leaves = sound .1 .1 .0;
+        })
 
 returns : tie.Need-returns
 returns c = refuses (c .enum-told2 .given .1) (says (c .before .before)) refl
@@ -76,7 +77,9 @@ same-length c = search needs
 returns-2 : tie.Need-returns-2
 returns-2 c =
     let told = c .before .before .before .before in
-    does (told .enum-told .given .1) (says (told .before .before)) (c .before .before .move-words .ensures)
+    let done = told .enum-told .given .1 in
+    let moved = rw (sound (told .before .before) done .2 .count) at (c .before .before .move-words .ensures) in
+    does done (says (told .before .before)) moved
 
 pub move-frame-spec : {M : Type 1} → statement M
 move-frame-spec =

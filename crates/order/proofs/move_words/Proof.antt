@@ -78,10 +78,10 @@ done : {n : ℕ} {C f s g : List ℕ} {p i : ℕ} → Moving n C f s g p i → l
 done m h = record { whole = m .frames .leaves; each = λ l k. m .each l (omega arith) }
 
 abbrev Inv-loop : tie.InvT-loop
-Inv-loop n columns frame out₀ steps place₀ i₀ out place i = Moving n columns frame steps out place i
+Inv-loop columns frame out₀ steps place₀ i₀ out place i = Moving (length columns) columns frame steps out place i
 
 abbrev μ-loop : tie.MeasureT-loop
-μ-loop n columns frame out₀ steps place₀ i₀ out place i = length frame - i
+μ-loop columns frame out₀ steps place₀ i₀ out place i = length frame - i
 
 steps-of-requires : tie.Need-steps-of-requires Inv-loop μ-loop
 steps-of-requires c κs = search needs

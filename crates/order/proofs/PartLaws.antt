@@ -1,7 +1,7 @@
 -- The four parts make up the order, and each is known by its rows.
+--   place-parts            where the word at tick c and port p leaves: the parts of c and the parts of p together
 --   P1-linear .. P4-linear each part is linear
 --   P1-into .. P4-into     and sends port bits or tick bits to port bits or tick bits
---   place-parts            where the word at tick c and port p leaves: the parts of c and the parts of p together
 --   rowsOf-dot             row r of a linear map is bit r of its result
 use Prim.Native.Nat.{ℕ, _+_, _-_, _^_, _<_, _≤_}
 use mathlib.Core.Path.{_≡_, sym, ap, ap₂, _∙_}
@@ -41,6 +41,14 @@ module _ (k : ℕ) (C : List ℕ) where
   abbrev of-tick : ℕ → ℕ
   of-tick c = place C (wordAt k c 0)
 
+  pub place-parts : (c p : ℕ) → p < 2 ^ k
+      → place C (wordAt k c p) ≡ wordAt k (bitXor (P4 k C c) (P3 k C p)) (bitXor (P2 k C c) (P1 k C p))
+  place-parts c p h =
+      ap (λ (x : ℕ). place C (wordAt k x p)) (sym (xor-zero-r c))
+      ∙ ap (place C) (sym (xor-block k c 0 0 p (pow-pos k) h))
+      ∙ image-xor C (wordAt k c 0) (wordAt k 0 p)
+      ∙ by-halves k (of-tick c) (of-port p)
+
   of-port-linear : Linear of-port
   of-port-linear p q = rw (at-port k (bitXor p q), at-port k p, at-port k q) (image-xor C p q)
 
@@ -59,14 +67,6 @@ module _ (k : ℕ) (C : List ℕ) where
 
   pub P4-linear : Linear (P4 k C)
   P4-linear = tick-linear k of-tick of-tick-linear
-
-  pub place-parts : (c p : ℕ) → p < 2 ^ k
-      → place C (wordAt k c p) ≡ wordAt k (bitXor (P4 k C c) (P3 k C p)) (bitXor (P2 k C c) (P1 k C p))
-  place-parts c p h =
-      ap (λ (x : ℕ). place C (wordAt k x p)) (sym (xor-zero-r c))
-      ∙ ap (place C) (sym (xor-block k c 0 0 p (pow-pos k) h))
-      ∙ image-xor C (wordAt k c 0) (wordAt k 0 p)
-      ∙ by-halves k (of-tick c) (of-port p)
 
   pub P1-into : (a : ℕ) → Into (P1 k C) a (2 ^ k)
   P1-into a p h = mod-lt (of-port p) (pow-pos k)

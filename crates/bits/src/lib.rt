@@ -1,9 +1,8 @@
 // Numbers as rows of bits. Bit 0 is the lowest.
 ghost use mathlib.Core.Path.{_≡_};
-ghost use Prim.Native.Nat.{_<_, _^_};
 ghost use Rattle.bits.specs.Image.{image as imageOf};
 ghost use Rattle.bits.specs.Parity.{parity as parityOf};
-ghost use Rattle.bits.specs.Word.{Exponent};
+ghost use Rattle.bits.specs.Word.{TwoTo};
 
 // 1 if x has an odd number of ones, else 0.
 pub fn parity(x: u32) -> u32
@@ -36,8 +35,10 @@ pub fn image(columns: &[u16], x: u32) -> u16
 }
 
 pub fn two_to(k: u32) -> u32
-    requires { ⌜ Exponent k ⌝ }
-    ensures { λ r. ⌜ r ≡ 2 ^ k ⌝ }
+    ensures { λ r. ⌜ TwoTo k r ⌝ }
 {
+    if 32 <= k {
+        return 0;
+    }
     1 << k
 }

@@ -1,7 +1,8 @@
 -- Answers, and what they leave.
+--   not-both          no answer is done and a refusal
 --   said-same         answers that say the same are the same
---   refuses           an answer that is a refusal, and everything as it came
---   does              an answer that is none, and what it leaves
+--   refuses           how a refusal meets `Answers`: it is the table's, and everything is as it came
+--   does              how done meets it: the table gives nothing, and the tool leaves what it is to leave
 --   answers-done      where no reason applies, a tool has done its work
 --   answers-same      two right answers are the same
 --   answers-agree     so two tools with one table were both done, or were both refused
@@ -16,27 +17,23 @@ use Rattle.kinds.specs.Answers.{Answers}
 use Rattle.kinds.specs.declared.Answer.{Answer}
 use Rattle.kinds.specs.declared.Answer.the-variants.{Done, Refused}
 use Rattle.kinds.specs.declared.Refusal.{Refusal}
+use Rattle.kinds.proofs.LowestLaws.{none-some}
+
+pub not-both : {A : Type 0} {r : Answer} {x : Refusal} → r ≡ Done → r ≡ Refused x → A
+not-both d e = absurd (let z : _≡_ {A = ℕ} 0 1 = cc in omega arith)
 
 pub said-same : (a b : Answer) → said a ≡ said b → a ≡ b
 said-same Done Done e = refl
-said-same Done (Refused y) e = absurd (let z : _≡_ {A = ℕ} 0 1 = cc in omega arith)
-said-same (Refused x) Done e = absurd (let z : _≡_ {A = ℕ} 0 1 = cc in omega arith)
+said-same Done (Refused y) e = none-some e
+said-same (Refused x) Done e = none-some (sym e)
 said-same (Refused x) (Refused y) e = cc
 
 module _ {t : List Reason} {D K : Type 0} where
-  pub refuses : {r : Answer} {x : Refusal} → r ≡ Refused x → said r ≡ lowest t → K → Answers t r D K
-  refuses e l k = record {
-    lowest-of = l;
-    done = λ d. absurd (let z : _≡_ {A = ℕ} 0 1 = cc in omega arith);
-    refused = λ x f. k;
-  }
+  pub refuses : {r : Answer} → ¬ (r ≡ Done) → said r ≡ lowest t → K → Answers t r D K
+  refuses n l k = record { lowest-of = l; done = λ d. absurd (n d); refused = λ x e. k }
 
   pub does : {r : Answer} → r ≡ Done → said r ≡ lowest t → D → Answers t r D K
-  does e l d = record {
-    lowest-of = l;
-    done = λ f. d;
-    refused = λ x f. absurd (let z : _≡_ {A = ℕ} 0 1 = cc in omega arith);
-  }
+  does d l leaves = record { lowest-of = l; done = λ _. leaves; refused = λ x e. not-both d e }
 
   pub answers-done : {r : Answer} → lowest t ≡ none → Answers t r D K → r ≡ Done
   answers-done {r} e a = said-same r Done (a .lowest-of ∙ e)

@@ -1,4 +1,5 @@
 -- The law of `lowest`.
+--   none-some       a refusal is not none
 --   lowest-nil      an empty table refuses nothing
 --   lowest-take     a first reason that applies is given
 --   lowest-skip     a first reason that doesn't leaves the rest to decide
@@ -36,7 +37,7 @@ pub lowest-skip : (r : Reason) (rs : List Reason) → ¬ r .applies → lowest (
 unfolding lowest
 lowest-skip r rs = skip (r .decided) (r .refusal) (lowest rs)
 
-none-some : {x : Refusal} {A : Type 0} → none ≡ some x → A
+pub none-some : {x : Refusal} {A : Type 0} → none ≡ some x → A
 none-some e = absurd (let z : _≡_ {A = ℕ} 0 1 = cc in omega arith)
 
 none-each : (t : List Reason) → lowest t ≡ none → EachReason (λ r. ¬ r .applies) t

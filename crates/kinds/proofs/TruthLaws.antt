@@ -1,7 +1,7 @@
 -- A bool that says whether a statement holds.
 --   false≢true      anything follows from it
---   says-no         false says it of a statement that does not hold
---   says-yes        true says it of one that does
+--   says-no         false says whether a statement holds that does not
+--   says-yes        true says whether one holds that does
 --   denied          where the bool is false, the statement does not hold
 --   says-same       two bools that say it of one statement are equal
 use Prim.Native.Nat.{ℕ}

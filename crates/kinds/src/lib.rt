@@ -38,6 +38,15 @@ pub enum Answer {
     Refused(Refusal),
 }
 
+pub fn is_done(answer: Answer) -> bool
+    ensures { λ r. ⌜ Says r (answer ≡ Answer.Done) ⌝ }
+{
+    match answer {
+        Answer::Done => true,
+        Answer::Refused(_) => false,
+    }
+}
+
 // The number that 01 gives a refusal.
 pub fn number(refusal: Refusal) -> u32
     ensures { λ r. ⌜ r ≡ numberOf refusal ⌝ }

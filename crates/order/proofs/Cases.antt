@@ -1,11 +1,14 @@
--- The meanings on small cases of 01. Gray code at n 3 (columns 1 3 6) is undone by 1 3 7 and not by itself; bit reversal (4 2 1) is undone by itself.
+-- The meanings on cases of 01. At every n of the sizes bit reversal is undone by itself; from n 3 on Gray code is not: the last column comes back as
+-- 2^(n-1) + 2^(n-3), where it should be 2^(n-1). At n 3 it is undone by 1 3 7.
 -- Columns 4 4 at n 2 give 3, columns 1 1 give 4; n 0, n 11 and n 4294967295 give 1, and so do k 0, k 6 and n 2 with k 3; a column too few, and an output or a
 -- frame too short, give 2, whatever the columns are. The parts of the order 2 4 8 1 at n 4, k 2, by their rows.
 use mathlib.Core.Path.{_≡_, refl}
 use mathlib.Core.List.{List, [], _∷_, map}
-use Prim.Native.Nat.{ℕ}
+use Prim.Native.Nat.{ℕ, _+_, _-_, _/_, _^_}
 use native.Mathlib.Decide.{ℕ-discrete, decLe}
+use lib.Bits.{bitXor}
 use lib.Count.{ones}
+use lib.ListN.{getD}
 use Rattle.kinds.specs.Edition.{edition1, sizedN?, sized?}
 use Rattle.kinds.specs.Refusal.{given}
 use Rattle.kinds.specs.Lowest.{lowest}
@@ -19,21 +22,33 @@ use Rattle.order.specs.Order.{place}
 use Rattle.order.specs.Parts.{rowsP1, rowsP2, rowsP3, rowsP4}
 use Rattle.order.specs.Table.{orderTable, inverseTable, moverTable}
 
-abbrev words : List ℕ
-words = 0 ∷ 1 ∷ 2 ∷ 3 ∷ 4 ∷ 5 ∷ 6 ∷ 7 ∷ []
+abbrev reversal : ℕ → List ℕ
+reversal n = columns n (λ u. 2 ^ (n - 1) / u)
 
+abbrev gray : ℕ → List ℕ
+gray n = columns n (λ u. bitXor u (u / 2))
+
+abbrev identity : ℕ → List ℕ
+identity n = columns n (λ u. u)
+
+-- the columns of D after C
 abbrev after : List ℕ → List ℕ → List ℕ
-after D C = map (λ i. place D (place C i)) words
+after D C = map (place D) C
 
-abbrev gray : List ℕ
-gray = 1 ∷ 3 ∷ 6 ∷ []
+abbrev from-three : List ℕ
+from-three = 3 ∷ 4 ∷ 5 ∷ 6 ∷ 7 ∷ 8 ∷ 9 ∷ 10 ∷ []
 
-undone : (after (1 ∷ 3 ∷ 7 ∷ []) gray ≡ words)
-    × (after gray (1 ∷ 3 ∷ 7 ∷ []) ≡ words)
-    × (after gray gray ≡ 0 ∷ 1 ∷ 2 ∷ 3 ∷ 5 ∷ 4 ∷ 7 ∷ 6 ∷ [])
-    × (after (4 ∷ 2 ∷ 1 ∷ []) (4 ∷ 2 ∷ 1 ∷ []) ≡ words)
-unfolding image
-undone = (refl, refl, refl, refl)
+reversal-hides : map (λ n. after (reversal n) (reversal n)) (1 ∷ 2 ∷ from-three) ≡ map identity (1 ∷ 2 ∷ from-three)
+unfolding image columns
+reversal-hides = refl
+
+gray-shows : map (λ n. getD (after (gray n) (gray n)) (n - 1) 0) from-three ≡ map (λ n. 2 ^ (n - 1) + 2 ^ (n - 3)) from-three
+unfolding image columns
+gray-shows = refl
+
+gray-undone : (gray 3 ≡ 1 ∷ 3 ∷ 6 ∷ []) × (after (1 ∷ 3 ∷ 7 ∷ []) (gray 3) ≡ identity 3) × (after (gray 3) (1 ∷ 3 ∷ 7 ∷ []) ≡ identity 3)
+unfolding image columns
+gray-undone = (refl, refl, refl)
 
 refused : map (λ (n, C, out). given (lowest (inverseTable edition1 n C out))) (
     (2, 4 ∷ 4 ∷ [], 0 ∷ 0 ∷ [])

@@ -1,4 +1,4 @@
--- Laws of orders, of moving, and of the table of refusals.
+-- Laws of orders and their parts, of frames in order, of the table of refusals and of the tools, and cases that are computed.
 pub mod OrderLaws
 pub mod PartLaws
 pub mod MoveLaws

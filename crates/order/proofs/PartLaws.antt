@@ -3,7 +3,7 @@
 --   P1-linear .. P4-linear each part is linear
 --   P1-into .. P4-into     and sends port bits or tick bits to port bits or tick bits
 --   rowsOf-dot             row r of a linear map is bit r of its result
-use Prim.Native.Nat.{ℕ, _+_, _-_, _^_, _<_, _≤_}
+use Prim.Native.Nat.{ℕ, _+_, _^_, _<_, _≤_}
 use mathlib.Core.Path.{_≡_, sym, ap, ap₂, _∙_}
 use mathlib.Core.List.{List}
 use native.Mathlib.Nat.{mod-lt}

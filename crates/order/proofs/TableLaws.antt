@@ -5,7 +5,7 @@
 --   order-ascending  its numbers go up, so the first that applies is the lowest
 --   order-sound      none applies exactly when the sizes are right, every lent length is, and the columns are an order
 use Prim.Native.Nat.{ℕ, _^_}
-use mathlib.Core.Path.{_≡_, sym, _∙_}
+use mathlib.Core.Path.{_≡_, sym, ap, _∙_}
 use mathlib.Core.Bool.{Bool}
 use mathlib.Core.List.{List, _∷_}
 use mathlib.Core.Logic.{_↔_}
@@ -15,6 +15,8 @@ use native.Mathlib.Omega.{arith}
 use lib.ListN.{length, getD}
 use Rattle.kinds.specs.Lowest.{lowest, Ascending}
 use Rattle.kinds.specs.Reasons.{outside, RightLengths, rightLengths?}
+use Rattle.kinds.specs.Refusal.{said}
+use Rattle.kinds.specs.declared.Answer.{Answer}
 use Rattle.kinds.specs.declared.Answer.the-variants.{Refused}
 use Rattle.kinds.specs.declared.Refusal.the-variants.{Sizes}
 use Rattle.kinds.proofs.LowestLaws.{lowest-take, lowest-skip, lowest-none}
@@ -34,8 +36,8 @@ pub not-large : (n : ℕ) (C : List ℕ) → ¬ ColumnTooLarge n C → AllBelow 
 not-large n C small j l = elim (decLt (getD C j 0) (2 ^ n)) [ yes b ↦ b | no out ↦ absurd (small (j, l, omega arith)) ]
 
 module _ {S : Type 0} (sized : Dec S) (n : ℕ) (C : List ℕ) where
-  pub outside-sizes : (fits : Bool) → ¬ S → Checks sized n C fits (Refused Sizes)
-  outside-sizes fits out others f = sym (lowest-take (outside sized) (columnTable n C others) out)
+  pub outside-sizes : (fits : Bool) {r : Answer} → ¬ S → r ≡ Refused Sizes → Checks sized n C fits r
+  outside-sizes fits out e others f = ap said e ∙ sym (lowest-take (outside sized) (columnTable n C others) out)
 
   pub within-sizes : (fits : Bool) {r : Checked} → S → ChecksColumns n C fits r → Checks sized n C fits (r .answer)
   within-sizes fits s j others f = j .answer others f ∙ sym (lowest-skip (outside sized) (columnTable n C others) (λ out. out s))

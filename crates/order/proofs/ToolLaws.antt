@@ -21,30 +21,30 @@ use Rattle.kinds.specs.declared.Answer.the-variants.{Done}
 use Rattle.kinds.proofs.TruthLaws.{says-no, says-yes}
 use Rattle.kinds.proofs.AnswerLaws.{said-same, answers-done, answers-same, answers-agree}
 use Rattle.order.specs.Order.{Order, Undoes}
-use Rattle.order.specs.Table.{inverseTable, moverTable}
+use Rattle.order.specs.Table.{inverseLengths, moverLengths, inverseTable, moverTable}
 use Rattle.order.specs.Tools.{Checks, Inverts, Moves}
 use Rattle.order.proofs.OrderLaws.{undoes-order, undoes-sym, undoes-unique}
 use Rattle.order.proofs.MoveLaws.{moved-unique, moved-home}
 use Rattle.order.proofs.TableLaws.{order-sound}
 
--- what a tool that was done shows: the sizes, the length it was lent first, and the order
+-- what a tool shows that was done
 module _ (e : Edition) (n : ℕ) (C : List ℕ) where
-  inverse-sound : (out : List ℕ) → lowest (inverseTable e n C out) ≡ none → SizedN e n × (length out ≡ n) × Order n C
-  inverse-sound out l = let s = order-sound (sizedN? e n) n C ((length out, n) ∷ []) .0 l in (s .0, s .1 .0, s .2)
+  inverse-sound : (out : List ℕ) → lowest (inverseTable e n C out) ≡ none → Order n C
+  inverse-sound out l = order-sound (sizedN? e n) n C (inverseLengths n out) .0 l .2
 
   mover-sound : (frame out : List ℕ) → lowest (moverTable e n C frame out) ≡ none → SizedN e n × (length frame ≡ 2 ^ n) × Order n C
   mover-sound frame out l =
-      let s = order-sound (sizedN? e n) n C ((length frame, 2 ^ n) ∷ (length out, 2 ^ n) ∷ []) .0 l in (s .0, s .1 .0, s .2)
+      let s = order-sound (sizedN? e n) n C (moverLengths n frame out) .0 l in (s .0, s .1 .0, s .2)
 
   mover-done : (frame out moved : List ℕ) (r : Answer) → SizedN e n → Order n C → length frame ≡ 2 ^ n → length out ≡ 2 ^ n
       → Moves e n C frame out moved r → r ≡ Done
   mover-done frame out moved r s o f g =
-      answers-done (order-sound (sizedN? e n) n C ((length frame, 2 ^ n) ∷ (length out, 2 ^ n) ∷ []) .1 (s, (f, (g, tt)), o))
+      answers-done (order-sound (sizedN? e n) n C (moverLengths n frame out) .1 (s, (f, (g, tt)), o))
 
   pub inverts-unique : (out a b : List ℕ) (r s : Answer) → Inverts e n C out a r → Inverts e n C out b s → (r ≡ s) × (a ≡ b)
   inverts-unique out a b r s p q = (
     answers-same p q,
-    answers-agree p q (λ l u w. undoes-unique (inverse-sound out l .2) u w) (λ k l. k ∙ sym l),
+    answers-agree p q (λ l u w. undoes-unique (inverse-sound out l) u w) (λ k l. k ∙ sym l),
   )
 
   pub moves-unique : (frame out a b : List ℕ) (r s : Answer) → Moves e n C frame out a r → Moves e n C frame out b s → (r ≡ s) × (a ≡ b)
@@ -68,13 +68,13 @@ module _ (e : Edition) (n : ℕ) (C D frame out moved inverse buffer home : List
       → (q ≡ Done) × (s ≡ Done) × (home ≡ frame)
   moved-and-back i there back =
       let (sized, whole, o) = mover-sound e n C frame out (sym (there .lowest-of) ∙ ap said d) in
-      let undone = answers-done (order-sound (sizedN? e n) n C ((length inverse, n) ∷ []) .1 (sized, (i, tt), o)) undo in
+      let undone = answers-done (order-sound (sizedN? e n) n C (inverseLengths n inverse) .1 (sized, (i, tt), o)) undo in
       let (done, same) = round e n C D frame out moved buffer home r s (undo .done undone) l d there back in
       (undone, done, same)
 
   pub back-and-moved : q ≡ Done → Moves e n D frame out moved r → Moves e n C moved buffer home s → (s ≡ Done) × (home ≡ frame)
   back-and-moved undone there back =
-      let o = inverse-sound e n C inverse (sym (undo .lowest-of) ∙ ap said undone) .2 in
+      let o = inverse-sound e n C inverse (sym (undo .lowest-of) ∙ ap said undone) in
       round e n D C frame out moved buffer home r s (undoes-sym o (undo .done undone)) l d there back
 
 pub checks-unique : {S : Type 0} (sized : Dec S) (n : ℕ) (C : List ℕ) (fits : Bool) (r s : Answer)

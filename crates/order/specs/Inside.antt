@@ -1,7 +1,8 @@
 -- What the functions inside the crate promise one another.
 --   Few C                      a scan has room for the columns C
 --   Scans C r                  r says whether C is independent; if so, its scan holds C
---   ChecksColumns n C fits r   r is the lowest of 2 to 4 that applies, fits as in `Checks`; if none does, C is an order and the scan holds it
+--   ChecksColumns n C fits r   r is the lowest of 2 to 4 that applies, fits as in `Checks`; if none does, the scan holds C
+--   ChecksAndScans n C fits r  the same of 1 to 4, for a tool that takes no k
 --   UndoesHeld scan m m'       whatever order the scan holds, of as many columns as m has, m' undoes it
 --   Steps C s                  s[j] is the sum of columns 0 to j: what the place changes by, from a number to the next, where the next ends in j zeros
 --   Frames n C f g             an order, and two frames
@@ -10,6 +11,7 @@ use mathlib.Core.Path.{_≡_}
 use mathlib.Core.Bool.{Bool, true}
 use mathlib.Core.List.{List}
 use lib.ListN.{length, getD}
+use Rattle.kinds.specs.Edition.{edition1, sizedN?}
 use Rattle.kinds.specs.Refusal.{said}
 use Rattle.kinds.specs.Lowest.{lowest}
 use Rattle.kinds.specs.Reasons.{RightLengths}
@@ -21,6 +23,7 @@ use Rattle.span.specs.Take.{room}
 use Rattle.span.specs.declared.Scan.{Scan}
 use Rattle.order.specs.Order.{place, Order, Undoes}
 use Rattle.order.specs.Table.{columnTable}
+use Rattle.order.specs.Tools.{Checks}
 use Rattle.order.specs.declared.Scanned.{Scanned}
 use Rattle.order.specs.declared.Checked.{Checked}
 
@@ -33,7 +36,10 @@ pub record Scans (C : List ℕ) (r : Scanned) : Type 0 where
 
 pub record ChecksColumns (n : ℕ) (C : List ℕ) (fits : Bool) (r : Checked) : Type 0 where
   pub answer : (others : List (ℕ × ℕ)) → Says fits (RightLengths others) → said (r .answer) ≡ lowest (columnTable n C others)
-  pub order : r .answer ≡ Done → Order n C
+  pub holds : r .answer ≡ Done → Holds (r .scan) C
+
+pub record ChecksAndScans (n : ℕ) (C : List ℕ) (fits : Bool) (r : Checked) : Type 0 where
+  pub answer : Checks (sizedN? edition1 n) n C fits (r .answer)
   pub holds : r .answer ≡ Done → Holds (r .scan) C
 
 abbrev pub UndoesHeld : Scan → List ℕ → List ℕ → Type 0

@@ -4,7 +4,8 @@
 --   dependent C               4: columns dependent
 --   columnTable n C others    2 to 4, where the lengths lent beside the columns, and what they should be, are others
 --   orderTable d n C others   1 to 4, where d decides whether the sizes are right
---   inverseTable e n C out, moverTable e n C frame out      those of the inverse and of the mover, which take no k
+--   inverseLengths n out, moverLengths n frame out          the lengths lent to the inverse and to the mover beside the columns
+--   inverseTable e n C out, moverTable e n C frame out      their tables: they take no k
 use Prim.Native.Nat.{ℕ, _^_, _<_, _≤_}
 use mathlib.Core.List.{List, [], _∷_}
 use native.Mathlib.Decide.{decLe}
@@ -35,8 +36,14 @@ columnTable n C others = wrongLength ((length C, n) ∷ others) ∷ tooLarge n C
 abbrev pub orderTable : {S : Type 0} → Dec S → ℕ → List ℕ → List (ℕ × ℕ) → List Reason
 orderTable sized n C others = outside sized ∷ columnTable n C others
 
+abbrev pub inverseLengths : ℕ → List ℕ → List (ℕ × ℕ)
+inverseLengths n out = (length out, n) ∷ []
+
+abbrev pub moverLengths : ℕ → List ℕ → List ℕ → List (ℕ × ℕ)
+moverLengths n frame out = (length frame, 2 ^ n) ∷ (length out, 2 ^ n) ∷ []
+
 abbrev pub inverseTable : Edition → ℕ → List ℕ → List ℕ → List Reason
-inverseTable e n C out = orderTable (sizedN? e n) n C ((length out, n) ∷ [])
+inverseTable e n C out = orderTable (sizedN? e n) n C (inverseLengths n out)
 
 abbrev pub moverTable : Edition → ℕ → List ℕ → List ℕ → List ℕ → List Reason
-moverTable e n C frame out = orderTable (sizedN? e n) n C ((length frame, 2 ^ n) ∷ (length out, 2 ^ n) ∷ [])
+moverTable e n C frame out = orderTable (sizedN? e n) n C (moverLengths n frame out)

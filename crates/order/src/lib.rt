@@ -10,7 +10,7 @@ ghost use Rattle.span.specs.Take.{room};
 ghost use Rattle.order.specs.Order.{Moved};
 ghost use Rattle.order.specs.Table.{ColumnTooLarge};
 ghost use Rattle.order.specs.Tools.{Checks, Inverts, Moves};
-ghost use Rattle.order.specs.Inside.{Few, Scans, ChecksColumns, UndoesHeld, Steps, Frames};
+ghost use Rattle.order.specs.Inside.{Few, Scans, ChecksColumns, ChecksAndScans, UndoesHeld, Steps, Frames};
 use kinds::Answer;
 use kinds::Refusal;
 use span::Scan;
@@ -19,10 +19,7 @@ use span::Scan;
 pub fn check(n: u32, columns: &[u16], fits: bool) -> Answer
     ensures { λ r. ⌜ Checks (sizedN? edition1 n) n (now (columns .entry)) fits r ⌝ }
 {
-    if !kinds::sized_n(n) {
-        return Answer::Refused(Refusal::Sizes);
-    }
-    let checked = check_columns(n, columns, fits);
+    let checked = check_and_scan(n, columns, fits);
     checked.answer
 }
 
@@ -40,6 +37,16 @@ pub fn check_with_k(n: u32, k: u32, columns: &[u16], fits: bool) -> Answer
 struct Checked {
     answer: Answer,
     scan: Scan,
+}
+
+// 1 to 4, with the scan of the columns where none applies.
+fn check_and_scan(n: u32, columns: &[u16], fits: bool) -> Checked
+    ensures { λ r. ⌜ ChecksAndScans n (now (columns .entry)) fits r ⌝ }
+{
+    if !kinds::sized_n(n) {
+        return refused(Refusal::Sizes);
+    }
+    check_columns(n, columns, fits)
 }
 
 // 2 to 4, with the scan of the columns where none applies.
@@ -124,15 +131,13 @@ fn scan_columns(columns: &[u16]) -> Scanned
 pub fn inverse(n: u32, columns: &[u16], out: &mut [u16]) -> Answer
     ensures { λ r. ⌜ Inverts edition1 n (now (columns .entry)) (now (out .entry)) (now (out .exit)) r ⌝ }
 {
-    if !kinds::sized_n(n) {
-        return Answer::Refused(Refusal::Sizes);
-    }
     let fits = out.len() == n as usize;
-    let checked = check_columns(n, columns, fits);
+    let checked = check_and_scan(n, columns, fits);
     let answer = checked.answer;
-    let Answer::Done = answer else {
+    let invertible = kinds::is_done(answer);
+    if !invertible {
         return answer;
-    };
+    }
     let scan = checked.scan;
     write_inverse(scan, out);
     answer
@@ -157,12 +162,13 @@ pub fn move_frame(n: u32, columns: &[u16], frame: &[u32], out: &mut [u32]) -> An
     ensures { λ r. ⌜ Moves edition1 n (now (columns .entry)) (now (frame .entry)) (now (out .entry)) (now (out .exit)) r ⌝ }
 {
     let fits = are_frames(n, frame.len(), out.len());
-    let checked = check(n, columns, fits);
-    let Answer::Done = checked else {
-        return checked;
-    };
+    let answer = check(n, columns, fits);
+    let done = kinds::is_done(answer);
+    if !done {
+        return answer;
+    }
     move_words(columns, frame, out);
-    checked
+    answer
 }
 
 fn are_frames(n: u32, came: usize, leaves: usize) -> bool
@@ -190,11 +196,12 @@ fn move_words(columns: &[u16], frame: &[u32], out: &mut [u32])
         let at = place as usize;
         out[at] = frame[i];
         i += 1;
-        let next = u64::trailing_zeros(i as u64) as usize;
-        place = place ^ steps[next];
+        let zeros = u64::trailing_zeros(i as u64) as usize;
+        place = place ^ steps[zeros];
     }
 }
 
+// One place more than columns: the last step of all, from the last word, is read and not used.
 fn steps_of(columns: &[u16]) -> [u16; 17]
     requires { ⌜ Few (now columns) ⌝ }
     ensures { λ r. ⌜ Steps (now (columns .entry)) r ⌝ }

@@ -9,8 +9,7 @@
 --   echelon-none           no entry, for the empty list
 --   echelon-old, mask-old  the same entries, for a number that they make up; its mask
 --   echelon-new, mask-new  what is left of a number that they don't make up is an entry of its own; its mask
---   no-sum                 a number that they don't make up is no sum of kept ones
---   made-up                a number that they make up is a sum of kept ones
+--   made-up, no-sum        the first is a sum of kept ones, the second is none
 --   not-kept, kept-rest    the first is not kept, the second is
 use Prim.Native.Nat.{ℕ, _*_, _+_, _^_, _≤_, _<_}
 use mathlib.Core.Path.{_≡_, refl, sym, ap, ap₂, _∙_}

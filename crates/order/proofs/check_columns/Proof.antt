@@ -16,11 +16,11 @@ use Rattle.kinds.specs.declared.Answer.the-variants.{Refused}
 use Rattle.kinds.specs.declared.Refusal.{Refusal}
 use Rattle.kinds.specs.declared.Refusal.the-variants.{Length}
 use Rattle.kinds.proofs.TruthLaws.{denied}
+use Rattle.kinds.proofs.AnswerLaws.{not-both}
 use Rattle.kinds.proofs.LowestLaws.{lowest-nil, lowest-take, lowest-skip}
 use Rattle.order.specs.Table.{ColumnTooLarge, tooLarge, dependent, columnTable}
 use Rattle.order.specs.Inside.{ChecksColumns}
 use Rattle.order.specs.declared.Checked.{Checked}
-use Rattle.order.proofs.TableLaws.{not-large}
 use Rattle.order.proofs.check_columns.Statement.{statement}
 use Rattle.order.proofs.check_columns.Tie as tie
 
@@ -32,8 +32,7 @@ module _ {n : ℕ} {C : List ℕ} {fits : Bool} where
   refuses : {x : Refusal} {r : Checked} → r .answer ≡ Refused x → Gives n C fits (some x) → ChecksColumns n C fits r
   refuses {x} {r} e g = record {
     answer = λ others f. ap said e ∙ sym (g .gives others f);
-    order = λ d. absurd (let z : _≡_ {A = ℕ} 0 1 = cc in omega arith);
-    holds = λ d. absurd (let z : _≡_ {A = ℕ} 0 1 = cc in omega arith);
+    holds = λ d. not-both d e;
   }
 
   other-length : fits ≡ false → Gives n C fits (some Length)
@@ -105,7 +104,6 @@ returns-5 c =
     let independent = scanned .scan-columns .ensures .says .0 says in
     record {
       answer = λ others f. sym (past-3 scanned (lowest-skip _ _ (λ d. d independent) ∙ lowest-nil) .gives others f);
-      order = λ d. record { count = count scanned; below = not-large _ (C scanned) (small scanned); independent = independent };
       holds = λ d. scanned .scan-columns .ensures .holds says;
     }
 

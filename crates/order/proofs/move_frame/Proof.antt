@@ -1,18 +1,21 @@
 -- `order::move_frame` meets its contract. Past the check the columns are an order, and both buffers are frames.
-use Prim.Native.Nat.{ℕ, _^_}
+use Prim.Native.Nat.{ℕ}
 use mathlib.Core.Path.{_≡_, refl, sym, ap, _∙_}
-use mathlib.Core.List.{List, [], _∷_}
+use mathlib.Core.Bool.{true}
+use mathlib.Core.List.{List}
 use native.Mathlib.Omega.{arith}
 use borrow.Author.Needs.{needs}
+use borrow.Author.Tests.{not-true, not-false}
 use lib.ListN.{length}
 use Rattle.kinds.specs.Edition.{edition1, SizedN, sizedN?}
 use Rattle.kinds.specs.Refusal.{said}
 use Rattle.kinds.specs.Lowest.{lowest}
 use Rattle.kinds.specs.Reasons.{RightLengths}
 use Rattle.kinds.specs.declared.Answer.the-variants.{Done}
+use Rattle.kinds.proofs.TruthLaws.{denied}
 use Rattle.kinds.proofs.AnswerLaws.{refuses, does}
 use Rattle.order.specs.Order.{Order}
-use Rattle.order.specs.Table.{moverTable}
+use Rattle.order.specs.Table.{moverLengths, moverTable}
 use Rattle.order.specs.Inside.{Frames}
 use Rattle.order.proofs.TableLaws.{order-sound}
 use Rattle.order.proofs.move_frame.Statement.{statement}
@@ -24,21 +27,18 @@ are-frames-requires c κs = search needs
 check-requires : tie.Need-check-requires
 check-requires c κs = search needs
 
-enum-told : tie.Need-enum-told
-enum-told c = search needs
+is-done-requires : tie.Need-is-done-requires
+is-done-requires c κs = search needs
 
-enum-told-2 : tie.Need-enum-told-2
-enum-told-2 c = search needs
-
-module _ (c : tie.After-check) where
+module _ (c : tie.After-is-done) where
   abbrev start : tie.Start
-  start = c .before .before .before .before .before
+  start = c .before .before .before .before .before .before
 
   abbrev n : ℕ
   n = start .args .n
 
-  abbrev columns : List ℕ
-  columns = start .args .columns .now
+  abbrev C : List ℕ
+  C = start .args .columns .now
 
   abbrev frame : List ℕ
   frame = start .args .frame .now
@@ -46,17 +46,17 @@ module _ (c : tie.After-check) where
   abbrev out : List ℕ
   out = start .args .out .now
 
-  abbrev lent : List (ℕ × ℕ)
-  lent = (length frame, 2 ^ n) ∷ (length out, 2 ^ n) ∷ []
+  says : said (c .before .check .result) ≡ lowest (moverTable edition1 n C frame out)
+  says = c .before .check .ensures (moverLengths n frame out) (c .before .before .are-frames .ensures)
 
-  says : said (c .check .result) ≡ lowest (moverTable edition1 n columns frame out)
-  says = c .check .ensures lent (c .before .are-frames .ensures)
+  module _ (yes-done : c .is-done .result ≡ true) where
+    done : c .before .check .result ≡ Done
+    done = c .is-done .ensures .0 yes-done
 
-  module _ (e : c .check .result ≡ Done) where
-    sound : SizedN edition1 n × RightLengths lent × Order n columns
-    sound = order-sound (sizedN? edition1 n) n columns lent .0 (sym says ∙ ap said e)
+    sound : SizedN edition1 n × RightLengths (moverLengths n frame out) × Order n C
+    sound = order-sound (sizedN? edition1 n) n C (moverLengths n frame out) .0 (sym says ∙ ap said done)
 
-    frames : Frames (length columns) columns frame out
+    frames : Frames (length C) C frame out
     frames = rw (sound .2 .count) (
         record {
           few = omega (arith, sound .0 .most, sound .2 .count);
@@ -66,20 +66,20 @@ module _ (c : tie.After-check) where
         })
 
 returns : tie.Need-returns
-returns c = refuses (c .enum-told2 .given .1) (says (c .before .before)) refl
+returns c = refuses (denied (c .before .is-done .ensures) (not-true _ (c .if1 .taken))) (says (c .before)) refl
 
 move-words-requires : tie.Need-move-words-requires
-move-words-requires c κs = frames (c .before .before .before) (c .before .enum-told .given .1)
+move-words-requires c κs = frames (c .before .before) (not-false _ (c .before .if1 .left))
 
 same-length : tie.Need-same-length
 same-length c = search needs
 
 returns-2 : tie.Need-returns-2
 returns-2 c =
-    let told = c .before .before .before .before in
-    let done = told .enum-told .given .1 in
-    let moved = rw (sound (told .before .before) done .2 .count) at (c .before .before .move-words .ensures) in
-    does done (says (told .before .before)) moved
+    let moved = c .before .before in
+    let checked = moved .before .before .before in
+    let yes-done = not-false _ (moved .before .before .if1 .left) in
+    does (done checked yes-done) (says checked) (rw (sound checked yes-done .2 .count) at (moved .move-words .ensures))
 
 pub move-frame-spec : {M : Type 1} → statement M
 move-frame-spec =
@@ -87,8 +87,7 @@ move-frame-spec =
     (tie.spec
     are-frames-requires
     check-requires
-    enum-told
-    enum-told-2
+    is-done-requires
     returns
     move-words-requires
     same-length

@@ -107,8 +107,8 @@ slice-write-out c = omega (arith, target (c .before .before .loop .inv) (c .befo
 add-i : tie.Need-add-i Inv-loop μ-loop
 add-i c = search needs
 
-cast-next : tie.Need-cast-next Inv-loop μ-loop
-cast-next c = omega (arith, next (c .before .before .loop .inv) (c .before .loop-test .taken))
+cast-zeros : tie.Need-cast-zeros Inv-loop μ-loop
+cast-zeros c = omega (arith, next (c .before .before .loop .inv) (c .before .loop-test .taken))
 
 mul-place : tie.Need-mul-place Inv-loop μ-loop
 mul-place c = omega (arith, next (c .before .before .loop .inv) (c .before .loop-test .taken))
@@ -142,7 +142,7 @@ move-words-spec =
     mul-out-2
     slice-write-out
     add-i
-    cast-next
+    cast-zeros
     mul-place
     array-read-place
     loop-less

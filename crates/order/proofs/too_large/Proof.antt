@@ -23,7 +23,7 @@ more : {C : List ℕ} {bound j : ℕ} → Passed C bound j → j < length C → 
 more {C} {bound} {j} p h s = record { within = omega arith; small = below-more (λ i. getD C i 0 < bound) j (p .small) s }
 
 two-to-requires : tie.Need-two-to-requires Inv-loop μ-loop
-two-to-requires c κs = record { below-width = omega (arith, c .before .pre) }
+two-to-requires c κs = search needs
 
 loop-holds : tie.Need-loop-holds Inv-loop μ-loop
 loop-holds c = record { within = omega arith; small = below-none _ }
@@ -38,7 +38,7 @@ cast-if1 : tie.Need-cast-if1 Inv-loop μ-loop
 cast-if1 c = omega (arith, c .shared-slice-known2 .given (c .before .before .loop .j))
 
 returns : tie.Need-returns Inv-loop μ-loop
-returns c = let loop = c .before .before .before in says-yes (loop .loop .j, c .before .before .loop-test .taken, omega (arith, loop .before .two-to .ensures))
+returns c = let loop = c .before .before .before in says-yes (loop .loop .j, c .before .before .loop-test .taken, omega (arith, loop .before .two-to .ensures .fits (omega (arith, loop .before .before .before .pre))))
 
 add-j : tie.Need-add-j Inv-loop μ-loop
 add-j c = search needs
@@ -50,7 +50,7 @@ loop-again : tie.Need-loop-again Inv-loop μ-loop
 loop-again c = more (c .before .before .before .loop .inv) (c .before .before .loop-test .taken) (c .if1 .left)
 
 returns-2 : tie.Need-returns-2 Inv-loop μ-loop
-returns-2 c = says-no (λ s. omega (arith, c .before .loop .inv .small (s .0) (omega (arith, s .1)), s .2, c .before .before .two-to .ensures))
+returns-2 c = says-no (λ s. omega (arith, c .before .loop .inv .small (s .0) (omega (arith, s .1)), s .2, c .before .before .two-to .ensures .fits (omega (arith, c .before .before .before .before .pre))))
 
 pub too-large-spec : {M : Type 1} → statement M
 too-large-spec =

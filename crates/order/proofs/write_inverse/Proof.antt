@@ -57,7 +57,7 @@ two-to-requires : tie.Need-two-to-requires Inv-loop μ-loop
 two-to-requires c κs = search needs
 
 cast-unit : tie.Need-cast-unit Inv-loop μ-loop
-cast-unit c = omega (arith, pow-lt {i = c .before .before .loop .b} {j = 16} (omega arith))
+cast-unit c = omega (arith, c .two-to .ensures .fits (omega arith), pow-lt {i = c .before .before .loop .b} {j = 16} (omega arith))
 
 mask-of-requires : tie.Need-mask-of-requires Inv-loop μ-loop
 mask-of-requires c κs = search needs
@@ -75,7 +75,7 @@ loop-less : tie.Need-loop-less Inv-loop μ-loop
 loop-less c = search needs
 
 loop-again : tie.Need-loop-again Inv-loop μ-loop
-loop-again c = more (c .before .before .before .loop .inv) (omega arith) (c .before .two-to .ensures) (c .mask-of .ensures)
+loop-again c = more (c .before .before .before .loop .inv) (omega arith) (c .before .two-to .ensures .fits (omega arith)) (c .mask-of .ensures)
 
 same-length : tie.Need-same-length Inv-loop μ-loop
 same-length c = c .before .loop .inv .same

@@ -2,14 +2,13 @@
 use Prim.Native.Nat.{ℕ, _+_, _*_, _^_, _≤_, _<_}
 use mathlib.Core.Path.{_≡_, refl, ap, _∙_}
 use mathlib.Core.Bool.{false, true}
-use mathlib.Core.Logic.{_≢_}
 use native.Mathlib.Omega.{arith}
 use borrow.Author.Needs.{needs}
 use lib.Bits.{bitXor, xor-shifted}
 use lib.Count.{leadingZeros}
 use lib.ListN.{set}
 use lib.Pow.{pow-lt}
-use Rattle.kinds.proofs.TruthLaws.{false≢true}
+use Rattle.kinds.proofs.TruthLaws.{says-no, says-yes}
 use Rattle.span.specs.Held.{width, entry, Made, Reduces}
 use Rattle.span.specs.Take.{room, Takes}
 use Rattle.span.specs.declared.Scan.{Scan}
@@ -29,7 +28,7 @@ module _ {scan : Scan} {v left : ℕ} (fits : v < 2 ^ width) (free : scan .count
         let made : Made vs (entry v left) = rw (xor-shifted v width left short) at (reduced .made vs (h .echelon)) in
         record {
           holds = record { counted = omega (arith, h .counted, length-snoc vs v); echelon = echelon-old v short made fits (h .echelon) };
-          keeps = (false≢true, λ k. absurd (not-kept v short made k));
+          keeps = says-no (not-kept v short made);
           masked = mask-old v short made;
         };
     full = λ full. absurd (omega arith);
@@ -51,7 +50,7 @@ module _ {scan : Scan} {v left : ℕ} (fits : v < 2 ^ width) (free : scan .count
             counted = omega (arith, h .counted, length-snoc vs v);
             echelon = rw (row-high wide long) (echelon-new fits wide (h .echelon) made (row-left long) stuck l position);
           };
-          keeps = (λ _. kept-rest fits wide (h .echelon) made (row-left long) stuck l position, λ _. refl);
+          keeps = says-yes (kept-rest fits wide (h .echelon) made (row-left long) stuck l position);
           masked = mask-new fits wide (h .echelon) made (row-left long) stuck l position;
         };
     full = λ full. absurd (omega arith);
@@ -84,7 +83,7 @@ element-write-self c = place c
 cast-mask : tie.Need-cast-mask
 cast-mask c =
     let start = c .before .before .before .before .before .before in
-    omega (arith, c .two-to .ensures, pow-lt {i = start .args .t1 .count} {j = width} (omega arith))
+    omega (arith, c .two-to .ensures .fits (omega arith), pow-lt {i = start .args .t1 .count} {j = width} (omega arith))
 
 cast-mask-2 : tie.Need-cast-mask-2
 cast-mask-2 c = search needs
@@ -93,7 +92,7 @@ returns : tie.Need-returns
 returns c =
     let start = c .before .before .before .before .before .before in
     takes-new (start .fits .v .fits) (c .before .before .before .before .before .if1 .taken) (c .before .before .reduce .ensures)
-    (omega (arith, c .before .before .reduce .ok)) (c .before .if2 .taken) (c .two-to .ensures)
+    (omega (arith, c .before .before .reduce .ok)) (c .before .if2 .taken) (c .two-to .ensures .fits (omega arith))
 
 returns-2 : tie.Need-returns-2
 returns-2 c =

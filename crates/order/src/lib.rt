@@ -60,11 +60,13 @@ fn check_columns(n: u32, columns: &[u16], fits: bool) -> Checked
     if columns.len() != n as usize {
         return refused(Refusal::Length);
     }
-    if too_large(n, columns) {
+    let large = too_large(n, columns);
+    let scanned = scan_columns(columns);
+    let independent = scanned.independent;
+    if large {
         return refused(Refusal::TooLarge);
     }
-    let scanned = scan_columns(columns);
-    if !scanned.independent {
+    if !independent {
         return refused(Refusal::Dependent);
     }
     let scan = scanned.scan;

@@ -18,7 +18,7 @@ use Rattle.kinds.specs.declared.Refusal.the-variants.{Length}
 use Rattle.kinds.proofs.TruthLaws.{denied}
 use Rattle.kinds.proofs.AnswerLaws.{not-both}
 use Rattle.kinds.proofs.LowestLaws.{lowest-nil, lowest-take, lowest-skip}
-use Rattle.order.specs.Table.{ColumnTooLarge, tooLarge, dependent, columnTable}
+use Rattle.order.specs.Table.{tooLarge, dependent, columnTable}
 use Rattle.order.specs.Inside.{ChecksColumns}
 use Rattle.order.specs.declared.Checked.{Checked}
 use Rattle.order.proofs.check_columns.Statement.{statement}
@@ -59,43 +59,39 @@ returns-2 c = refuses (c .refused2 .ensures) (own-length (c .before .if2 .taken)
 too-large-requires : tie.Need-too-large-requires
 too-large-requires c κs = search needs
 
+scan-columns-requires : tie.Need-scan-columns-requires
+scan-columns-requires c κs = omega (arith, c .before .if2 .left, c .before .before .before .before .pre)
+
 refused-requires-3 : tie.Need-refused-requires-3
 refused-requires-3 c κs = search needs
-
-returns-3 : tie.Need-returns-3
-returns-3 c =
-    let lengths = c .before .before .before in
-    refuses (c .refused3 .ensures)
-    (past-2 (lengths .if2 .left) (not-false _ (lengths .before .if1 .left)) (lowest-take _ _ (c .before .before .too-large .ensures .0 (c .before .if3 .taken))))
-
-scan-columns-requires : tie.Need-scan-columns-requires
-scan-columns-requires c κs = omega (arith, c .before .before .if2 .left, c .before .before .before .before .before .pre)
 
 refused-requires-4 : tie.Need-refused-requires-4
 refused-requires-4 c κs = search needs
 
--- the tests up to the scan
+-- the lengths are right, and the columns have been scanned
 module _ (c : tie.After-scan-columns) where
   abbrev start : tie.Start
-  start = c .before .before .before .before .before .before
+  start = c .before .before .before .before .before
 
   abbrev C : List ℕ
   C = start .args .columns .now
 
-  count : length C ≡ start .args .n
-  count = c .before .before .before .if2 .left
+  past-lengths : {o : Option Refusal} → lowest (tooLarge (start .args .n) C ∷ dependent C ∷ []) ≡ o → Gives (start .args .n) C (start .args .fits) o
+  past-lengths = past-2 (c .before .before .if2 .left) (not-false _ (c .before .before .before .if1 .left))
 
-  small : ¬ ColumnTooLarge (start .args .n) C
-  small = denied (c .before .before .too-large .ensures) (c .before .if3 .left)
+  past-3 : {o : Option Refusal} → c .before .too-large .result ≡ false → lowest (dependent C ∷ []) ≡ o → Gives (start .args .n) C (start .args .fits) o
+  past-3 small e = past-lengths (lowest-skip _ _ (denied (c .before .too-large .ensures) small) ∙ e)
 
-  past-3 : {o : Option Refusal} → lowest (dependent C ∷ []) ≡ o → Gives (start .args .n) C (start .args .fits) o
-  past-3 e = past-2 count (not-false _ (c .before .before .before .before .if1 .left)) (lowest-skip _ _ small ∙ e)
+returns-3 : tie.Need-returns-3
+returns-3 c =
+    let scanned = c .before .before in
+    refuses (c .refused3 .ensures) (past-lengths scanned (lowest-take _ _ (scanned .before .too-large .ensures .0 (c .before .if3 .taken))))
 
 returns-4 : tie.Need-returns-4
 returns-4 c =
     let scanned = c .before .before .before in
     refuses (c .refused4 .ensures)
-    (past-3 scanned (lowest-take _ _ (denied (scanned .scan-columns .ensures .says) (not-true _ (c .before .if4 .taken)))))
+    (past-3 scanned (c .before .before .if3 .left) (lowest-take _ _ (denied (scanned .scan-columns .ensures .says) (not-true _ (c .before .if4 .taken)))))
 
 returns-5 : tie.Need-returns-5
 returns-5 c =
@@ -103,7 +99,8 @@ returns-5 c =
     let says = not-false _ (c .before .if4 .left) in
     let independent = scanned .scan-columns .ensures .says .0 says in
     record {
-      answer = λ others f. sym (past-3 scanned (lowest-skip _ _ (λ d. d independent) ∙ lowest-nil) .gives others f);
+      answer = λ others f.
+          sym (past-3 scanned (c .before .before .if3 .left) (lowest-skip _ _ (λ d. d independent) ∙ lowest-nil) .gives others f);
       holds = λ d. scanned .scan-columns .ensures .holds says;
     }
 
@@ -116,9 +113,9 @@ check-columns-spec =
     refused-requires-2
     returns-2
     too-large-requires
+    scan-columns-requires
     refused-requires-3
     returns-3
-    scan-columns-requires
     refused-requires-4
     returns-4
     returns-5)

@@ -1,12 +1,12 @@
 -- The words of a frame (01, 'Orders, ticks and ports'): 2^n of them, 2^k on each tick, and t = n - k, so 2^t ticks.
---   ticks n k       t
+--   tickBits n k    t, the bits of a tick
 --   tickOf k i      the tick of word i, or of place i: "c = i / 2^k (whole part)"
 --   portOf k i      its port: "p = i mod 2^k"
 --   wordAt k c p    the number of the word at tick c, port p
 use Prim.Native.Nat.{ℕ, _+_, _-_, _*_, _/_, _%_, _^_}
 
-abbrev pub ticks : ℕ → ℕ → ℕ
-ticks n k = n - k
+abbrev pub tickBits : ℕ → ℕ → ℕ
+tickBits n k = n - k
 
 abbrev pub tickOf : ℕ → ℕ → ℕ
 tickOf k i = i / 2 ^ k

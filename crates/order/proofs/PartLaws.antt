@@ -11,7 +11,7 @@ use native.Mathlib.Omega.{arith}
 use lib.Bits.{bitXor, xor-zero-r, xor-block, xor-shr, xor-mod}
 use lib.ListN.{getD}
 use lib.Pow.{pow-pos, pow-lt, shr-lt, split}
-use Rattle.kinds.specs.Frame.{ticks, tickOf, portOf, wordAt}
+use Rattle.kinds.specs.Frame.{tickBits, tickOf, portOf, wordAt}
 use Rattle.bits.specs.Image.{Linear, columns}
 use Rattle.bits.specs.Parity.{bit, dot}
 use Rattle.bits.proofs.ImageLaws.{image-xor, image-lt, linear-image, columns-below}
@@ -29,8 +29,8 @@ tick-linear k f l x y = ap (tickOf k) (l x y) ∙ xor-shr (f x) (f y) k
 at-port : (k p : ℕ) → wordAt k 0 p ≡ p
 at-port k p = omega arith
 
-by-halves : (k a b : ℕ) → bitXor a b ≡ wordAt k (bitXor (tickOf k a) (tickOf k b)) (bitXor (portOf k a) (portOf k b))
-by-halves k a b =
+by-tick-and-port : (k a b : ℕ) → bitXor a b ≡ wordAt k (bitXor (tickOf k a) (tickOf k b)) (bitXor (portOf k a) (portOf k b))
+by-tick-and-port k a b =
     sym (ap₂ bitXor (split a k) (split b k))
     ∙ xor-block k (tickOf k a) (tickOf k b) (portOf k a) (portOf k b) (mod-lt a (pow-pos k)) (mod-lt b (pow-pos k))
 
@@ -47,7 +47,7 @@ module _ (k : ℕ) (C : List ℕ) where
       ap (λ (x : ℕ). place C (wordAt k x p)) (sym (xor-zero-r c))
       ∙ ap (place C) (sym (xor-block k c 0 0 p (pow-pos k) h))
       ∙ image-xor C (wordAt k c 0) (wordAt k 0 p)
-      ∙ by-halves k (of-tick c) (of-port p)
+      ∙ by-tick-and-port k (of-tick c) (of-port p)
 
   of-port-linear : Linear of-port
   of-port-linear p q = rw (at-port k (bitXor p q), at-port k p, at-port k q) (image-xor C p q)
@@ -75,15 +75,15 @@ module _ (k : ℕ) (C : List ℕ) where
   P2-into a c h = mod-lt (of-tick c) (pow-pos k)
 
   module _ {n : ℕ} (o : Order n C) (within : k ≤ n) where
-    early : (x : ℕ) → tickOf k (place C x) < 2 ^ ticks n k
+    early : (x : ℕ) → tickOf k (place C x) < 2 ^ tickBits n k
     early x =
-        let all : ticks n k + k ≡ n = omega arith in
-        shr-lt (ticks n k) k (rw all (image-lt n C (o .below) x))
+        let all : tickBits n k + k ≡ n = omega arith in
+        shr-lt (tickBits n k) k (rw all (image-lt n C (o .below) x))
 
-    pub P3-into : (a : ℕ) → Into (P3 k C) a (2 ^ ticks n k)
+    pub P3-into : (a : ℕ) → Into (P3 k C) a (2 ^ tickBits n k)
     P3-into a p h = early (wordAt k 0 p)
 
-    pub P4-into : (a : ℕ) → Into (P4 k C) a (2 ^ ticks n k)
+    pub P4-into : (a : ℕ) → Into (P4 k C) a (2 ^ tickBits n k)
     P4-into a c h = early (wordAt k c 0)
 
 pub rowsOf-dot : (m l : ℕ) (f : ℕ → ℕ) → Linear f → Into f (2 ^ l) (2 ^ m) → (r x : ℕ) → r < m → x < 2 ^ l

@@ -1,5 +1,4 @@
 -- The table of 1 to 4.
---   not-large        where no column is 2^n or more, all are below
 --   outside-sizes    sizes that are refused give 1
 --   within-sizes     sizes that are not leave 2 to 4 to decide
 --   order-ascending  its numbers go up, so the first that applies is the lowest
@@ -32,7 +31,7 @@ stable : {A : Type 0} → Dec A → ¬ (¬ A) → A
 stable (yes a) n = a
 stable (no m) n = absurd (n m)
 
-pub not-large : (n : ℕ) (C : List ℕ) → ¬ ColumnTooLarge n C → AllBelow (2 ^ n) C
+not-large : (n : ℕ) (C : List ℕ) → ¬ ColumnTooLarge n C → AllBelow (2 ^ n) C
 not-large n C small j l = elim (decLt (getD C j 0) (2 ^ n)) [ yes b ↦ b | no out ↦ absurd (small (j, l, omega arith)) ]
 
 module _ {S : Type 0} (sized : Dec S) (n : ℕ) (C : List ℕ) where

@@ -7,7 +7,7 @@
 --   rowsP1 k C, rowsP2 n k C, rowsP3 n k C, rowsP4 n k C     the rows of each part
 use Prim.Native.Nat.{ℕ}
 use mathlib.Core.List.{List}
-use Rattle.kinds.specs.Frame.{ticks, tickOf, portOf, wordAt}
+use Rattle.kinds.specs.Frame.{tickBits, tickOf, portOf, wordAt}
 use Rattle.bits.specs.Image.{columns}
 use Rattle.span.specs.Rows.{rows}
 use Rattle.order.specs.Order.{place}
@@ -31,10 +31,10 @@ abbrev pub rowsP1 : ℕ → List ℕ → List ℕ
 rowsP1 k C = rowsOf k k (P1 k C)
 
 abbrev pub rowsP2 : ℕ → ℕ → List ℕ → List ℕ
-rowsP2 n k C = rowsOf k (ticks n k) (P2 k C)
+rowsP2 n k C = rowsOf k (tickBits n k) (P2 k C)
 
 abbrev pub rowsP3 : ℕ → ℕ → List ℕ → List ℕ
-rowsP3 n k C = rowsOf (ticks n k) k (P3 k C)
+rowsP3 n k C = rowsOf (tickBits n k) k (P3 k C)
 
 abbrev pub rowsP4 : ℕ → ℕ → List ℕ → List ℕ
-rowsP4 n k C = rowsOf (ticks n k) (ticks n k) (P4 k C)
+rowsP4 n k C = rowsOf (tickBits n k) (tickBits n k) (P4 k C)

@@ -1,6 +1,7 @@
 // Numbers as rows of bits. Bit 0 is the lowest.
 ghost use mathlib.Core.Path.{_≡_};
-ghost use Rattle.bits.specs.Image.{image as imageOf};
+ghost use Rattle.kinds.specs.Answers.{Says};
+ghost use Rattle.bits.specs.Image.{image as imageOf, AllBelow};
 ghost use Rattle.bits.specs.Parity.{parity as parityOf};
 ghost use Rattle.bits.specs.Word.{TwoTo};
 
@@ -32,6 +33,19 @@ pub fn image(columns: &[u16], x: u32) -> u16
         j += 1;
     }
     sum
+}
+
+pub fn all_below(columns: &[u16], bound: u32) -> bool
+    ensures { λ r. ⌜ Says r (AllBelow bound (now (columns .entry))) ⌝ }
+{
+    let mut j = 0;
+    while j < columns.len() {
+        if bound <= columns[j] as u32 {
+            return false;
+        }
+        j += 1;
+    }
+    true
 }
 
 pub fn two_to(k: u32) -> u32

@@ -1,8 +1,9 @@
--- A bool that says whether a statement holds.
+-- A bool that says whether a statement holds, and statements that are decided.
 --   false≢true      anything follows from it
 --   says-no         false says whether a statement holds that does not
 --   says-yes        true says whether one holds that does
 --   denied          where the bool is false, the statement does not hold
+--   stable          a decided statement holds if it can't fail
 --   says-same       two bools that say it of one statement are equal
 use Prim.Native.Nat.{ℕ}
 use mathlib.Core.Path.{_≡_, refl, sym, _∙_}
@@ -12,6 +13,10 @@ use Rattle.kinds.specs.Answers.{Says}
 
 pub false≢true : {A : Type 0} → false ≡ true → A
 false≢true e = absurd (let z : _≡_ {A = ℕ} 0 1 = cc in omega arith)
+
+pub stable : {A : Type 0} → Dec A → ¬ (¬ A) → A
+stable (yes a) n = a
+stable (no m) n = absurd (n m)
 
 module _ {P : Type 0} where
   pub says-no : ¬ P → Says false P

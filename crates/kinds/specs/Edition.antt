@@ -8,6 +8,7 @@
 --   sizedN?, sized?    whether they are
 use Prim.Native.Nat.{ℕ, _+_, _*_, _≤_, min}
 use native.Mathlib.Decide.{decLe}
+use Rattle.kinds.specs.Decided.{both, through}
 
 pub record Edition : Type 0 where
   pub most-n : ℕ
@@ -35,19 +36,11 @@ pub record Sized (e : Edition) (n k : ℕ) : Type 0 where
 
 unfoldable pub sizedN? : (e : Edition) (n : ℕ) → Dec (SizedN e n)
 unfolding decLe
-sizedN? e n = both (decLe 1 n) (decLe n (e .most-n))
-  where
-    both : Dec (1 ≤ n) → Dec (n ≤ e .most-n) → Dec (SizedN e n)
-    both (yes l) (yes m) = yes (record { least = l; most = m })
-    both (yes l) (no m) = no (λ s. m (s .most))
-    both (no l) m = no (λ s. l (s .least))
+sizedN? e n =
+    through (λ (l, m). record { least = l; most = m }, λ s. (s .least, s .most)) (both (decLe 1 n) (decLe n (e .most-n)))
 
 unfoldable pub sized? : (e : Edition) (n k : ℕ) → Dec (Sized e n k)
 unfolding sizedN? decLe
-sized? e n k = all (sizedN? e n) (decLe 1 k) (decLe k (min n (e .most-k)))
-  where
-    all : Dec (SizedN e n) → Dec (1 ≤ k) → Dec (k ≤ min n (e .most-k)) → Dec (Sized e n k)
-    all (yes f) (yes l) (yes m) = yes (record { frame = f; least = l; most = m })
-    all (yes f) (yes l) (no m) = no (λ s. m (s .most))
-    all (yes f) (no l) m = no (λ s. l (s .least))
-    all (no f) l m = no (λ s. f (s .frame))
+sized? e n k =
+    through (λ (f, (l, m)). record { frame = f; least = l; most = m }, λ s. (s .frame, (s .least, s .most)))
+    (both (sizedN? e n) (both (decLe 1 k) (decLe k (min n (e .most-k)))))

@@ -1,4 +1,5 @@
--- The board's vocabulary: the sizes of an edition, the words of a frame, the refusals and their numbers, which of a tool's refusals is given, and how contracts say so.
+-- The board's vocabulary: decisions, the sizes of an edition, the words of a frame, the refusals and their numbers, which of a tool's refusals is given, and how contracts say so.
+pub mod Decided
 pub mod Edition
 pub mod Frame
 pub mod Refusal

@@ -7,6 +7,7 @@ use Prim.Native.Nat.{ℕ}
 use mathlib.Core.Path.{_≡_}
 use mathlib.Core.List.{List, [], _∷_}
 use native.Mathlib.Decide.{ℕ-discrete}
+use Rattle.kinds.specs.Decided.{both}
 use Rattle.kinds.specs.Lowest.{Reason, unless}
 use Rattle.kinds.specs.declared.Refusal.the-variants.{Sizes, Length}
 
@@ -21,11 +22,6 @@ unfoldable pub rightLengths? : (l : List (ℕ × ℕ)) → Dec (RightLengths l)
 unfolding ℕ-discrete
 rightLengths? [] = yes tt
 rightLengths? ((lent, right) ∷ rest) = both (ℕ-discrete lent right) (rightLengths? rest)
-  where
-    both : Dec (lent ≡ right) → Dec (RightLengths rest) → Dec ((lent ≡ right) × RightLengths rest)
-    both (yes e) (yes r) = yes (e, r)
-    both (yes e) (no n) = no (λ s. n (s .1))
-    both (no n) d = no (λ s. n (s .0))
 
 abbrev pub wrongLength : List (ℕ × ℕ) → Reason
 wrongLength l = unless Length (rightLengths? l)

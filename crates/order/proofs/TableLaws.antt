@@ -1,6 +1,7 @@
 -- The table of 1 to 4.
 --   outside-sizes    sizes that are refused give 1
 --   within-sizes     sizes that are not leave 2 to 4 to decide
+--   too-large        columns that are not all below 2^n give 3
 --   order-ascending  its numbers go up, so the first that applies is the lowest
 --   order-sound      none applies exactly when the sizes are right, every lent length is, and the columns are an order
 use Prim.Native.Nat.{ℕ, _^_}
@@ -18,27 +19,27 @@ use Rattle.kinds.specs.Refusal.{said}
 use Rattle.kinds.specs.declared.Answer.{Answer}
 use Rattle.kinds.specs.declared.Answer.the-variants.{Refused}
 use Rattle.kinds.specs.declared.Refusal.the-variants.{Sizes}
+use Rattle.kinds.proofs.TruthLaws.{stable}
 use Rattle.kinds.proofs.LowestLaws.{lowest-take, lowest-skip, lowest-none}
 use Rattle.bits.specs.Image.{AllBelow}
 use Rattle.span.specs.Sums.{independent?}
 use Rattle.order.specs.Order.{Order}
-use Rattle.order.specs.Table.{ColumnTooLarge, columnTable, orderTable}
-use Rattle.order.specs.Tools.{Checks}
+use Rattle.order.specs.Table.{ColumnTooLarge, tooLarge, columnTable, orderTable}
+use Rattle.kinds.specs.Answers.{Checks}
 use Rattle.order.specs.Inside.{ChecksColumns}
 use Rattle.order.specs.declared.Checked.{Checked}
-
-stable : {A : Type 0} → Dec A → ¬ (¬ A) → A
-stable (yes a) n = a
-stable (no m) n = absurd (n m)
 
 not-large : (n : ℕ) (C : List ℕ) → ¬ ColumnTooLarge n C → AllBelow (2 ^ n) C
 not-large n C small j l = elim (decLt (getD C j 0) (2 ^ n)) [ yes b ↦ b | no out ↦ absurd (small (j, l, omega arith)) ]
 
+pub too-large : (n : ℕ) (C : List ℕ) → ¬ AllBelow (2 ^ n) C → ColumnTooLarge n C
+too-large n C beyond = stable (tooLarge n C .decided) (λ small. beyond (not-large n C small))
+
 module _ {S : Type 0} (sized : Dec S) (n : ℕ) (C : List ℕ) where
-  pub outside-sizes : (fits : Bool) {r : Answer} → ¬ S → r ≡ Refused Sizes → Checks sized n C fits r
+  pub outside-sizes : (fits : Bool) {r : Answer} → ¬ S → r ≡ Refused Sizes → Checks (orderTable sized n C) fits r
   outside-sizes fits out e others f = ap said e ∙ sym (lowest-take (outside sized) (columnTable n C others) out)
 
-  pub within-sizes : (fits : Bool) {r : Checked} → S → ChecksColumns n C fits r → Checks sized n C fits (r .answer)
+  pub within-sizes : (fits : Bool) {r : Checked} → S → ChecksColumns n C fits r → Checks (orderTable sized n C) fits (r .answer)
   within-sizes fits s j others f = j .answer others f ∙ sym (lowest-skip (outside sized) (columnTable n C others) (λ out. out s))
 
   pub order-ascending : (others : List (ℕ × ℕ)) → Ascending (orderTable sized n C others)

@@ -3,26 +3,20 @@
 --   back-and-moved      a frame moved by the inverse and then by the order is the frame too
 --   inverts-unique      the inverse has one answer, and leaves one content
 --   moves-unique        so has the mover
---   checks-unique       so has the check
 use Prim.Native.Nat.{ℕ, _^_}
 use mathlib.Core.Path.{_≡_, sym, ap, _∙_}
-use mathlib.Core.Bool.{Bool, true, false}
-use mathlib.Core.List.{List, [], _∷_}
+use mathlib.Core.List.{List}
 use mathlib.Core.Option.{none}
-use native.Mathlib.Omega.{arith}
 use lib.ListN.{length}
 use Rattle.kinds.specs.Edition.{Edition, SizedN, sizedN?}
 use Rattle.kinds.specs.Refusal.{said}
 use Rattle.kinds.specs.Lowest.{lowest}
-use Rattle.kinds.specs.Reasons.{RightLengths}
-use Rattle.kinds.specs.Answers.{Says}
 use Rattle.kinds.specs.declared.Answer.{Answer}
 use Rattle.kinds.specs.declared.Answer.the-variants.{Done}
-use Rattle.kinds.proofs.TruthLaws.{says-no, says-yes}
-use Rattle.kinds.proofs.AnswerLaws.{said-same, answers-done, answers-same, answers-agree}
+use Rattle.kinds.proofs.AnswerLaws.{answers-done, answers-same, answers-agree}
 use Rattle.order.specs.Order.{Order, Undoes}
 use Rattle.order.specs.Table.{inverseLengths, moverLengths, inverseTable, moverTable}
-use Rattle.order.specs.Tools.{Checks, Inverts, Moves}
+use Rattle.order.specs.Tools.{Inverts, Moves}
 use Rattle.order.proofs.OrderLaws.{undoes-order, undoes-sym, undoes-unique}
 use Rattle.order.proofs.MoveLaws.{moved-unique, moved-home}
 use Rattle.order.proofs.TableLaws.{order-sound}
@@ -76,10 +70,3 @@ module _ (e : Edition) (n : ℕ) (C D frame out moved inverse buffer home : List
   back-and-moved undone there back =
       let o = inverse-sound e n C inverse (sym (undo .lowest-of) ∙ ap said undone) in
       round e n D C frame out moved buffer home r s (undoes-sym o (undo .done undone)) l d there back
-
-pub checks-unique : {S : Type 0} (sized : Dec S) (n : ℕ) (C : List ℕ) (fits : Bool) (r s : Answer)
-    → Checks sized n C fits r → Checks sized n C fits s → r ≡ s
-checks-unique sized n C true r s p q = said-same r s (p [] (says-yes tt) ∙ sym (q [] (says-yes tt)))
-checks-unique sized n C false r s p q =
-    let wrong : Says false (RightLengths ((0, 1) ∷ [])) = says-no (λ right. omega (arith, right .0)) in
-    said-same r s (p ((0, 1) ∷ []) wrong ∙ sym (q ((0, 1) ∷ []) wrong))

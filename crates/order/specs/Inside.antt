@@ -12,18 +12,14 @@ use mathlib.Core.Bool.{Bool, true}
 use mathlib.Core.List.{List}
 use lib.ListN.{length, getD}
 use Rattle.kinds.specs.Edition.{edition1, sizedN?}
-use Rattle.kinds.specs.Refusal.{said}
-use Rattle.kinds.specs.Lowest.{lowest}
-use Rattle.kinds.specs.Reasons.{RightLengths}
-use Rattle.kinds.specs.Answers.{Says}
+use Rattle.kinds.specs.Answers.{Says, Checks}
 use Rattle.kinds.specs.declared.Answer.the-variants.{Done}
 use Rattle.span.specs.Sums.{Independent}
 use Rattle.span.specs.Held.{Holds}
 use Rattle.span.specs.Take.{room}
 use Rattle.span.specs.declared.Scan.{Scan}
 use Rattle.order.specs.Order.{place, Order, Undoes}
-use Rattle.order.specs.Table.{columnTable}
-use Rattle.order.specs.Tools.{Checks}
+use Rattle.order.specs.Table.{columnTable, orderTable}
 use Rattle.order.specs.declared.Scanned.{Scanned}
 use Rattle.order.specs.declared.Checked.{Checked}
 
@@ -35,11 +31,11 @@ pub record Scans (C : List ℕ) (r : Scanned) : Type 0 where
   pub holds : r .independent ≡ true → Holds (r .scan) C
 
 pub record ChecksColumns (n : ℕ) (C : List ℕ) (fits : Bool) (r : Checked) : Type 0 where
-  pub answer : (others : List (ℕ × ℕ)) → Says fits (RightLengths others) → said (r .answer) ≡ lowest (columnTable n C others)
+  pub answer : Checks (columnTable n C) fits (r .answer)
   pub holds : r .answer ≡ Done → Holds (r .scan) C
 
 pub record ChecksAndScans (n : ℕ) (C : List ℕ) (fits : Bool) (r : Checked) : Type 0 where
-  pub answer : Checks (sizedN? edition1 n) n C fits (r .answer)
+  pub answer : Checks (orderTable (sizedN? edition1 n) n C) fits (r .answer)
   pub holds : r .answer ≡ Done → Holds (r .scan) C
 
 abbrev pub UndoesHeld : Scan → List ℕ → List ℕ → Type 0

@@ -3,13 +3,13 @@ ghost use mathlib.Core.Path.{_≡_};
 ghost use mathlib.Core.List.{[], _∷_};
 ghost use Prim.Native.Nat.{_^_, _≤_};
 ghost use lib.ListN.{length};
-ghost use Rattle.kinds.specs.Answers.{Says};
+ghost use Rattle.kinds.specs.Answers.{Says, Checks};
 ghost use Rattle.kinds.specs.Edition.{edition1, sizedN?, sized?};
 ghost use Rattle.kinds.specs.Reasons.{RightLengths};
 ghost use Rattle.span.specs.Take.{room};
 ghost use Rattle.order.specs.Order.{Moved};
-ghost use Rattle.order.specs.Table.{ColumnTooLarge};
-ghost use Rattle.order.specs.Tools.{Checks, Inverts, Moves};
+ghost use Rattle.order.specs.Table.{orderTable};
+ghost use Rattle.order.specs.Tools.{Inverts, Moves};
 ghost use Rattle.order.specs.Inside.{Few, Scans, ChecksColumns, ChecksAndScans, UndoesHeld, Steps, Frames};
 use kinds::Answer;
 use kinds::Refusal;
@@ -17,7 +17,7 @@ use span::Scan;
 
 // Of an order without k: 1 to 4. `fits` says whether every other length that the tool was lent is right.
 pub fn check(n: u32, columns: &[u16], fits: bool) -> Answer
-    ensures { λ r. ⌜ Checks (sizedN? edition1 n) n (now (columns .entry)) fits r ⌝ }
+    ensures { λ r. ⌜ Checks (orderTable (sizedN? edition1 n) n (now (columns .entry))) fits r ⌝ }
 {
     let checked = check_and_scan(n, columns, fits);
     checked.answer
@@ -25,7 +25,7 @@ pub fn check(n: u32, columns: &[u16], fits: bool) -> Answer
 
 // Of an order with k: 1 to 4.
 pub fn check_with_k(n: u32, k: u32, columns: &[u16], fits: bool) -> Answer
-    ensures { λ r. ⌜ Checks (sized? edition1 n k) n (now (columns .entry)) fits r ⌝ }
+    ensures { λ r. ⌜ Checks (orderTable (sized? edition1 n k) n (now (columns .entry))) fits r ⌝ }
 {
     if !kinds::sized(n, k) {
         return Answer::Refused(Refusal::Sizes);
@@ -60,10 +60,11 @@ fn check_columns(n: u32, columns: &[u16], fits: bool) -> Checked
     if columns.len() != n as usize {
         return refused(Refusal::Length);
     }
-    let large = too_large(n, columns);
+    let bound = bits::two_to(n);
+    let small = bits::all_below(columns, bound);
     let scanned = scan_columns(columns);
     let independent = scanned.independent;
-    if large {
+    if !small {
         return refused(Refusal::TooLarge);
     }
     if !independent {
@@ -83,21 +84,6 @@ fn refused(refusal: Refusal) -> Checked
         answer: Answer::Refused(refusal),
         scan: Scan::new(),
     }
-}
-
-fn too_large(n: u32, columns: &[u16]) -> bool
-    requires { ⌜ n ≤ room ⌝ }
-    ensures { λ r. ⌜ Says r (ColumnTooLarge n (now (columns .entry))) ⌝ }
-{
-    let bound = bits::two_to(n);
-    let mut j = 0;
-    while j < columns.len() {
-        if bound <= columns[j] as u32 {
-            return true;
-        }
-        j += 1;
-    }
-    false
 }
 
 struct Scanned {

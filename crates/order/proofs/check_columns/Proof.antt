@@ -1,5 +1,5 @@
 -- `order::check_columns` meets its contract. It goes down the table from 2 to 4; past each test the reason does not apply.
-use Prim.Native.Nat.{ℕ}
+use Prim.Native.Nat.{ℕ, _^_}
 use mathlib.Core.Path.{_≡_, sym, ap, _∙_}
 use mathlib.Core.Bool.{Bool, true, false}
 use mathlib.Core.List.{List, [], _∷_}
@@ -18,9 +18,11 @@ use Rattle.kinds.specs.declared.Refusal.the-variants.{Length}
 use Rattle.kinds.proofs.TruthLaws.{denied}
 use Rattle.kinds.proofs.AnswerLaws.{not-both}
 use Rattle.kinds.proofs.LowestLaws.{lowest-nil, lowest-take, lowest-skip}
+use Rattle.bits.specs.Image.{AllBelow}
 use Rattle.order.specs.Table.{tooLarge, dependent, columnTable}
 use Rattle.order.specs.Inside.{ChecksColumns}
 use Rattle.order.specs.declared.Checked.{Checked}
+use Rattle.order.proofs.TableLaws.{too-large}
 use Rattle.order.proofs.check_columns.Statement.{statement}
 use Rattle.order.proofs.check_columns.Tie as tie
 
@@ -56,11 +58,14 @@ refused-requires-2 c κs = search needs
 returns-2 : tie.Need-returns-2
 returns-2 c = refuses (c .refused2 .ensures) (own-length (c .before .if2 .taken))
 
-too-large-requires : tie.Need-too-large-requires
-too-large-requires c κs = search needs
+two-to-requires : tie.Need-two-to-requires
+two-to-requires c κs = search needs
+
+all-below-requires : tie.Need-all-below-requires
+all-below-requires c κs = search needs
 
 scan-columns-requires : tie.Need-scan-columns-requires
-scan-columns-requires c κs = omega (arith, c .before .if2 .left, c .before .before .before .before .pre)
+scan-columns-requires c κs = omega (arith, c .before .before .if2 .left, c .before .before .before .before .before .pre)
 
 refused-requires-3 : tie.Need-refused-requires-3
 refused-requires-3 c κs = search needs
@@ -71,27 +76,33 @@ refused-requires-4 c κs = search needs
 -- the lengths are right, and the columns have been scanned
 module _ (c : tie.After-scan-columns) where
   abbrev start : tie.Start
-  start = c .before .before .before .before .before
+  start = c .before .before .before .before .before .before
 
   abbrev C : List ℕ
   C = start .args .columns .now
 
   past-lengths : {o : Option Refusal} → lowest (tooLarge (start .args .n) C ∷ dependent C ∷ []) ≡ o → Gives (start .args .n) C (start .args .fits) o
-  past-lengths = past-2 (c .before .before .if2 .left) (not-false _ (c .before .before .before .if1 .left))
+  past-lengths = past-2 (c .before .before .before .if2 .left) (not-false _ (c .before .before .before .before .if1 .left))
 
-  past-3 : {o : Option Refusal} → c .before .too-large .result ≡ false → lowest (dependent C ∷ []) ≡ o → Gives (start .args .n) C (start .args .fits) o
-  past-3 small e = past-lengths (lowest-skip _ _ (denied (c .before .too-large .ensures) small) ∙ e)
+  bound : c .before .before .two-to .result ≡ 2 ^ start .args .n
+  bound = c .before .before .two-to .ensures .fits (omega (arith, start .pre))
+
+  says : Says (c .before .all-below .result) (AllBelow (2 ^ start .args .n) C)
+  says = rw bound at (c .before .all-below .ensures)
+
+  past-3 : {o : Option Refusal} → c .before .all-below .result ≡ true → lowest (dependent C ∷ []) ≡ o → Gives (start .args .n) C (start .args .fits) o
+  past-3 small e = past-lengths (lowest-skip _ _ (λ (j, l, large). omega (arith, says .0 small j l, large)) ∙ e)
 
 returns-3 : tie.Need-returns-3
 returns-3 c =
     let scanned = c .before .before in
-    refuses (c .refused3 .ensures) (past-lengths scanned (lowest-take _ _ (scanned .before .too-large .ensures .0 (c .before .if3 .taken))))
+    refuses (c .refused3 .ensures) (past-lengths scanned (lowest-take _ _ (too-large _ (C scanned) (denied (says scanned) (not-true _ (c .before .if3 .taken))))))
 
 returns-4 : tie.Need-returns-4
 returns-4 c =
     let scanned = c .before .before .before in
     refuses (c .refused4 .ensures)
-    (past-3 scanned (c .before .before .if3 .left) (lowest-take _ _ (denied (scanned .scan-columns .ensures .says) (not-true _ (c .before .if4 .taken)))))
+    (past-3 scanned (not-false _ (c .before .before .if3 .left)) (lowest-take _ _ (denied (scanned .scan-columns .ensures .says) (not-true _ (c .before .if4 .taken)))))
 
 returns-5 : tie.Need-returns-5
 returns-5 c =
@@ -100,7 +111,7 @@ returns-5 c =
     let independent = scanned .scan-columns .ensures .says .0 says in
     record {
       answer = λ others f.
-          sym (past-3 scanned (c .before .before .if3 .left) (lowest-skip _ _ (λ d. d independent) ∙ lowest-nil) .gives others f);
+          sym (past-3 scanned (not-false _ (c .before .before .if3 .left)) (lowest-skip _ _ (λ d. d independent) ∙ lowest-nil) .gives others f);
       holds = λ d. scanned .scan-columns .ensures .holds says;
     }
 
@@ -112,7 +123,8 @@ check-columns-spec =
     returns
     refused-requires-2
     returns-2
-    too-large-requires
+    two-to-requires
+    all-below-requires
     scan-columns-requires
     refused-requires-3
     returns-3

@@ -1,0 +1,2 @@
+-- Laws of sheets, and cases that are computed.
+pub mod Cases

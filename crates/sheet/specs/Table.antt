@@ -1,0 +1,17 @@
+-- When a sheet is refused (01, 'When a tool says no').
+--   brokenLayout e n k s        5: the sheet breaks the layout
+--   sheetTable e n k s others   1, 2 and 5, where the lengths lent beside the sheet, and what they should be, are others
+use Prim.Native.Nat.{ℕ}
+use mathlib.Core.List.{List, [], _∷_}
+use lib.ListN.{length}
+use Rattle.kinds.specs.Edition.{Edition, sheet, sized?}
+use Rattle.kinds.specs.Lowest.{Reason, unless}
+use Rattle.kinds.specs.Reasons.{outside, wrongLength}
+use Rattle.kinds.specs.declared.Refusal.the-variants.{Layout}
+use Rattle.sheet.specs.Layout.{wellFormed?}
+
+abbrev pub brokenLayout : Edition → ℕ → ℕ → List ℕ → Reason
+brokenLayout e n k s = unless Layout (wellFormed? e n k s)
+
+abbrev pub sheetTable : Edition → ℕ → ℕ → List ℕ → List (ℕ × ℕ) → List Reason
+sheetTable e n k s others = outside (sized? e n k) ∷ wrongLength ((length s, sheet e) ∷ others) ∷ brokenLayout e n k s ∷ []

@@ -1,0 +1,155 @@
+// Sheets: the check of the layout, and the price.
+ghost use mathlib.Core.Path.{_≡_};
+ghost use mathlib.Core.List.{[]};
+ghost use Rattle.kinds.specs.Answers.{Says, Checks};
+ghost use Rattle.kinds.specs.Edition.{edition1};
+ghost use Rattle.kinds.specs.Lowest.{lowest};
+ghost use Rattle.sheet.specs.Sheet.{stagesIn};
+ghost use Rattle.sheet.specs.Layout.{StageInRange, EachStage, FormedSide};
+ghost use Rattle.sheet.specs.Table.{sheetTable};
+ghost use Rattle.sheet.specs.Price.{total, xorGates, priceOf, priced};
+ghost use Rattle.sheet.specs.Inside.{Whole, Room, Controlled};
+use kinds::Answer;
+use kinds::Refusal;
+
+// The places of edition 1, as 01's table has them; the address columns start at 0.
+const WIRING: usize = 10;
+
+const COUNT: usize = 15;
+
+const STAGES: usize = 16;
+
+const SIDE: usize = 32;
+
+const SHEET: usize = 64;
+
+const MOST_STAGES: usize = 8;
+
+// 1, 2 and 5. `fits` says whether every other length that the tool was lent is right.
+pub fn check(n: u32, k: u32, sheet: &[u16], fits: bool) -> Answer
+    ensures { λ r. ⌜ Checks (sheetTable edition1 n k (now (sheet .entry))) fits r ⌝ }
+{
+    if !kinds::sized(n, k) {
+        return Answer::Refused(Refusal::Sizes);
+    }
+    if !fits {
+        return Answer::Refused(Refusal::Length);
+    }
+    if sheet.len() != SHEET {
+        return Answer::Refused(Refusal::Length);
+    }
+    if !side_formed(n, k, &sheet[0..SIDE]) {
+        return Answer::Refused(Refusal::Layout);
+    }
+    if !side_formed(n, k, &sheet[SIDE..SHEET]) {
+        return Answer::Refused(Refusal::Layout);
+    }
+    Answer::Done
+}
+
+// Goes through 01's table of a side: each part that is used, and what is left of its places.
+fn side_formed(n: u32, k: u32, side: &[u16]) -> bool
+    requires { ⌜ Whole edition1 n k (now side) ⌝ }
+    ensures { λ r. ⌜ Says r (FormedSide edition1 n k (now (side .entry))) ⌝ }
+{
+    let ticks = bits::two_to(n - k);
+    let ports = bits::two_to(k);
+    let addresses = n as usize;
+    let wiring = WIRING + k as usize;
+    let count = side[COUNT] as usize;
+    if MOST_STAGES < count {
+        return false;
+    }
+    if !bits::all_below(&side[0..addresses], ticks) {
+        return false;
+    }
+    if !bits::all_below(&side[addresses..WIRING], 1) {
+        return false;
+    }
+    if !bits::all_below(&side[WIRING..wiring], ports) {
+        return false;
+    }
+    if !bits::all_below(&side[wiring..COUNT], 1) {
+        return false;
+    }
+    if !stages_formed(&side[STAGES..], count, ports, ticks) {
+        return false;
+    }
+    let rest = STAGES + 2 * count;
+    bits::all_below(&side[rest..], 1)
+}
+
+// A direction is below ports, a control below ticks, and neither is 0.
+fn stages_formed(stages: &[u16], count: usize, ports: u32, ticks: u32) -> bool
+    requires { ⌜ Room count (now stages) ⌝ }
+    ensures { λ r. ⌜ Says r (EachStage (StageInRange ports ticks) (stagesIn count (now (stages .entry)))) ⌝ }
+{
+    let mut s = 0;
+    while s < count {
+        let direction = stages[2 * s] as u32;
+        let control = stages[2 * s + 1] as u32;
+        if direction < 1 {
+            return false;
+        }
+        if ports <= direction {
+            return false;
+        }
+        if control < 1 {
+            return false;
+        }
+        if ticks <= control {
+            return false;
+        }
+        s += 1;
+    }
+    true
+}
+
+pub struct Sums {
+    pub switches: u32,
+    pub multiplexers: u32,
+    pub gates: u32,
+}
+
+pub enum Priced {
+    Costs(Sums),
+    Refused(Refusal),
+}
+
+// "A switch is priced as one multiplexer" (01).
+const SWITCH: u32 = 1;
+
+// What the stages of both sides cost. 1, 2 and 5.
+pub fn price(n: u32, k: u32, sheet: &[u16]) -> Priced
+    ensures { λ r. ⌜ r ≡ priced (lowest (sheetTable edition1 n k (now (sheet .entry)) [])) (priceOf edition1 n k (now (sheet .entry))) ⌝ }
+{
+    let answer = check(n, k, sheet, true);
+    if let Answer::Refused(refusal) = answer {
+        return Priced::Refused(refusal);
+    }
+    let write = sheet[COUNT] as usize;
+    let read = sheet[SIDE + COUNT] as usize;
+    let switches = (write as u32 + read as u32) * bits::two_to(k - 1);
+    let write_gates = xor_gates(&sheet[STAGES..SIDE], write);
+    let read_gates = xor_gates(&sheet[SIDE + STAGES..], read);
+    Priced::Costs(Sums {
+        switches,
+        multiplexers: SWITCH * switches,
+        gates: write_gates + read_gates,
+    })
+}
+
+// "The ones in its control number, less one" (01), of the first count stages.
+fn xor_gates(stages: &[u16], count: usize) -> u32
+    requires { ⌜ Controlled count (now stages) ⌝ }
+    ensures { λ r. ⌜ r ≡ total xorGates (stagesIn count (now (stages .entry))) ⌝ }
+{
+    let mut gates = 0;
+    let mut s = 0;
+    while s < count {
+        let control = stages[2 * s + 1] as u32;
+        gates += u32::count_ones(control) - 1;
+        s += 1;
+    }
+    gates
+}

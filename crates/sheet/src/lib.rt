@@ -41,7 +41,7 @@ pub fn check(n: u32, k: u32, sheet: &[u16], fits: bool) -> Answer
     if !side_formed(n, k, &sheet[0..SIDE]) {
         return Answer::Refused(Refusal::Layout);
     }
-    if !side_formed(n, k, &sheet[SIDE..SHEET]) {
+    if !side_formed(n, k, &sheet[SIDE..]) {
         return Answer::Refused(Refusal::Layout);
     }
     Answer::Done

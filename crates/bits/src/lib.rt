@@ -1,5 +1,6 @@
 // Numbers as rows of bits. Bit 0 is the lowest.
 ghost use mathlib.Core.Path.{_≡_};
+ghost use Prim.Native.Nat.{_+_, _*_, _%_, _^_};
 ghost use Rattle.kinds.specs.Answers.{Says};
 ghost use Rattle.bits.specs.Image.{image as imageOf, AllBelow};
 ghost use Rattle.bits.specs.Parity.{parity as parityOf};
@@ -55,4 +56,21 @@ pub fn two_to(k: u32) -> u32
         return 0;
     }
     1 << k
+}
+
+pub fn is_two_to(length: usize, k: u32) -> bool
+    ensures { λ r. ⌜ Says r (length ≡ 2 ^ k) ⌝ }
+{
+    if 64 <= k {
+        return false;
+    }
+    length == 1 << k
+}
+
+// A number in two parts, the lower one of k bits; of the whole, 16 bits, as columns have.
+pub fn joined(high: u32, low: u32, k: u32) -> u16
+    ensures { λ r. ⌜ r ≡ (high * 2 ^ k + low) % 2 ^ 16 ⌝ }
+{
+    let whole = (high as u64) * (two_to(k) as u64) + low as u64;
+    (whole % 65536) as u16
 }

@@ -162,14 +162,10 @@ pub fn move_frame(n: u32, columns: &[u16], frame: &[u32], out: &mut [u32]) -> An
 fn are_frames(n: u32, came: usize, leaves: usize) -> bool
     ensures { λ r. ⌜ Says r (RightLengths ((came, 2 ^ n) ∷ (leaves, 2 ^ n) ∷ [])) ⌝ }
 {
-    if 64 <= n {
+    if !bits::is_two_to(came, n) {
         return false;
     }
-    let words = 1usize << n;
-    if came != words {
-        return false;
-    }
-    leaves == words
+    bits::is_two_to(leaves, n)
 }
 
 // From each number to the next the place changes by one step.

@@ -1,31 +1,23 @@
--- `order::are_frames` meets its contract. No length of 64 bits is 2^64 or more.
-use Prim.Native.Nat.{ℕ, _^_, _*_, _%_, _<_}
-use mathlib.Core.Path.{_≡_, sym, _∙_}
+-- `order::are_frames` meets its contract.
 use borrow.Author.Needs.{needs}
-use borrow.Author.Tests.{eqb-true, eq-eqb}
-use native.Mathlib.Omega.{arith}
-use lib.Pow.{pow-mono, shl-exact}
-use Rattle.kinds.proofs.TruthLaws.{says-no}
+use borrow.Author.Tests.{not-true, not-false}
+use Rattle.kinds.proofs.TruthLaws.{says-no, denied}
 use Rattle.order.proofs.are_frames.Statement.{statement}
 use Rattle.order.proofs.are_frames.Tie as tie
 
-shifted : (n : ℕ) → n < 64 → (1 * 2 ^ n) % 2 ^ 64 ≡ 2 ^ n
-shifted n h = shl-exact 1 n 64 (omega arith) (omega arith) ∙ omega arith
+is-two-to-requires : tie.Need-is-two-to-requires
+is-two-to-requires c κs = search needs
 
 returns : tie.Need-returns
-returns c = says-no (λ s. omega (arith, s .0, pow-mono {i = 64} (c .if1 .taken), c .before .fits .came))
+returns c = says-no (λ s. denied (c .before .is-two-to .ensures) (not-true _ (c .if1 .taken)) (s .0))
 
-shl-words : tie.Need-shl-words
-shl-words c = search needs
+is-two-to-requires-2 : tie.Need-is-two-to-requires-2
+is-two-to-requires-2 c κs = search needs
 
 returns-2 : tie.Need-returns-2
-returns-2 c = says-no (λ s. omega (arith, s .0, shifted _ (c .before .if1 .left)))
-
-returns-3 : tie.Need-returns-3
-returns-3 c =
-    let args = c .before .before .args in
-    let words = shifted (args .n) (c .before .if1 .left) in
-    (λ e. (c .if2 .left ∙ words, (eqb-true _ _ e ∙ words, tt)), λ s. eq-eqb _ _ (s .1 .0 ∙ sym words))
+returns-2 c =
+    let came = c .before .before .is-two-to .ensures in
+    (λ e. (came .0 (not-false _ (c .before .if1 .left)), (c .is-two-to2 .ensures .0 e, tt)), λ s. c .is-two-to2 .ensures .1 (s .1 .0))
 
 pub are-frames-spec : {M : Type 1} → statement M
-are-frames-spec = tie.close (tie.spec returns shl-words returns-2 returns-3)
+are-frames-spec = tie.close (tie.spec is-two-to-requires returns is-two-to-requires-2 returns-2)

@@ -1,16 +1,18 @@
 -- Answers, and what they leave.
 --   not-both          no answer is done and a refusal
 --   said-same         answers that say the same are the same
+--   some-lengths      either bool says of some lengths whether they are right
 --   checks-unique     a check has one right answer
---   refuses           how a refusal meets `Answers`: it is the table's, and everything is as it came
---   does              how done meets it: the table gives nothing, and the tool leaves what it is to leave
+--   refused-by        how a refusal meets `Answers`: it is the table's, and everything is as it came
+--   done-by           how no refusal meets it: the table gives none, and what is to hold does
+--   refuses, does     the same of an `Answer`
 --   answers-done      where no reason applies, a tool has done its work
---   answers-same      two right answers are the same
+--   answers-same      two right answers give the same refusal, or none
 --   answers-agree     so two tools with one table were both done, or were both refused
 use mathlib.Core.Path.{_≡_, refl, sym, ap, _∙_}
 use mathlib.Core.Bool.{Bool, true, false}
 use mathlib.Core.List.{List, [], _∷_}
-use mathlib.Core.Option.{none}
+use mathlib.Core.Option.{Option, none, some}
 use Prim.Native.Nat.{ℕ}
 use native.Mathlib.Omega.{arith}
 use Rattle.kinds.specs.Refusal.{said}
@@ -32,29 +34,36 @@ said-same Done (Refused y) e = none-some e
 said-same (Refused x) Done e = none-some (sym e)
 said-same (Refused x) (Refused y) e = cc
 
+pub some-lengths : (fits : Bool) → (others : List (ℕ × ℕ)) × Says fits (RightLengths others)
+some-lengths true = ([], says-yes tt)
+some-lengths false = ((0, 1) ∷ [], says-no (λ right. omega (arith, right .0)))
+
 pub checks-unique : (t : List (ℕ × ℕ) → List Reason) (fits : Bool) (r s : Answer) → Checks t fits r → Checks t fits s → r ≡ s
-checks-unique t true r s p q = said-same r s (p [] (says-yes tt) ∙ sym (q [] (says-yes tt)))
-checks-unique t false r s p q =
-    let wrong : Says false (RightLengths ((0, 1) ∷ [])) = says-no (λ right. omega (arith, right .0)) in
-    said-same r s (p ((0, 1) ∷ []) wrong ∙ sym (q ((0, 1) ∷ []) wrong))
+checks-unique t fits r s p q = let (others, says) = some-lengths fits in said-same r s (p others says ∙ sym (q others says))
 
 module _ {t : List Reason} {D K : Type 0} where
-  pub refuses : {r : Answer} → ¬ (r ≡ Done) → said r ≡ lowest t → K → Answers t r D K
-  refuses n l k = record { lowest-of = l; done = λ d. absurd (n d); refused = λ x e. k }
+  pub refused-by : {x : Refusal} → lowest t ≡ some x → K → Answers t (some x) D K
+  refused-by l k = record { lowest-of = sym l; done = λ e. none-some (sym e); refused = λ x e. k }
 
-  pub does : {r : Answer} → r ≡ Done → said r ≡ lowest t → D → Answers t r D K
-  does d l leaves = record { lowest-of = l; done = λ _. leaves; refused = λ x e. not-both d e }
+  pub done-by : lowest t ≡ none → D → Answers t none D K
+  done-by l d = record { lowest-of = sym l; done = λ _. d; refused = λ x e. none-some e }
 
-  pub answers-done : {r : Answer} → lowest t ≡ none → Answers t r D K → r ≡ Done
+  pub refuses : {r : Answer} → ¬ (r ≡ Done) → said r ≡ lowest t → K → Answers t (said r) D K
+  refuses {r} n l k = record { lowest-of = l; done = λ e. absurd (n (said-same r Done e)); refused = λ x e. k }
+
+  pub does : {r : Answer} → r ≡ Done → said r ≡ lowest t → D → Answers t (said r) D K
+  does d l leaves = record { lowest-of = l; done = λ _. leaves; refused = λ x e. none-some (sym (ap said d) ∙ e) }
+
+  pub answers-done : {r : Answer} → lowest t ≡ none → Answers t (said r) D K → r ≡ Done
   answers-done {r} e a = said-same r Done (a .lowest-of ∙ e)
 
-module _ {t : List Reason} {D K E L : Type 0} {r s : Answer} (a : Answers t r D K) (b : Answers t s E L) where
-  pub answers-same : r ≡ s
-  answers-same = said-same r s (a .lowest-of ∙ sym (b .lowest-of))
+module _ {t : List Reason} {D K E L : Type 0} {o p : Option Refusal} (a : Answers t o D K) (b : Answers t p E L) where
+  pub answers-same : o ≡ p
+  answers-same = a .lowest-of ∙ sym (b .lowest-of)
 
   pub answers-agree : {X : Type 0} → (lowest t ≡ none → D → E → X) → (K → L → X) → X
-  answers-agree {X} done kept = go r refl
+  answers-agree {X} done kept = go o refl
     where
-      go : (q : Answer) → r ≡ q → X
-      go Done e = done (sym (a .lowest-of) ∙ ap said e) (a .done e) (b .done (sym answers-same ∙ e))
-      go (Refused x) e = kept (a .refused x e) (b .refused x (sym answers-same ∙ e))
+      go : (q : Option Refusal) → o ≡ q → X
+      go none e = done (sym (a .lowest-of) ∙ e) (a .done e) (b .done (sym answers-same ∙ e))
+      go (some x) e = kept (a .refused x e) (b .refused x (sym answers-same ∙ e))

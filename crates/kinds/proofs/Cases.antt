@@ -3,13 +3,13 @@
 use mathlib.Core.Path.{_≡_, refl}
 use mathlib.Core.List.{[], _∷_, map}
 use native.Mathlib.Omega.{arith}
-use Rattle.kinds.specs.Edition.{edition1, side, sheet, SizedN, Sized}
+use Rattle.kinds.specs.Edition.{edition1, sidePlaces, sheetPlaces, SizedN, Sized}
 use Rattle.kinds.specs.Refusal.{valuesOf, given}
 use Rattle.kinds.specs.Lowest.{Reason, lowest}
 use Rattle.kinds.specs.declared.Refusal.{Refusal}
 use Rattle.kinds.specs.declared.Refusal.the-variants.{Sizes, Length, Layout, WriteClash, ReadClash}
 
-places : (side edition1 ≡ 32) × (sheet edition1 ≡ 64)
+places : (sidePlaces edition1 ≡ 32) × (sheetPlaces edition1 ≡ 64)
 places = (refl, refl)
 
 largest : Sized edition1 10 5

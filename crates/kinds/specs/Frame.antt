@@ -3,6 +3,8 @@
 --   tickOf k i      the tick of word i, or of place i: "c = i / 2^k (whole part)"
 --   portOf k i      its port: "p = i mod 2^k"
 --   wordAt k c p    the number of the word at tick c, port p
+--   addressOf k x   the address of cell x, and
+--   bankOf k x      its bank: "the cell number is address*2^k + bank" (01, 'What a sheet holds')
 use Prim.Native.Nat.{ℕ, _+_, _-_, _*_, _/_, _%_, _^_}
 
 abbrev pub tickBits : ℕ → ℕ → ℕ
@@ -16,3 +18,9 @@ portOf k i = i % 2 ^ k
 
 abbrev pub wordAt : ℕ → ℕ → ℕ → ℕ
 wordAt k c p = c * 2 ^ k + p
+
+abbrev pub addressOf : ℕ → ℕ → ℕ
+addressOf k x = x / 2 ^ k
+
+abbrev pub bankOf : ℕ → ℕ → ℕ
+bankOf k x = x % 2 ^ k

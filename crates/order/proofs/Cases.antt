@@ -15,7 +15,7 @@ use Rattle.kinds.specs.Lowest.{lowest}
 use Rattle.kinds.specs.Reasons.{rightLengths?}
 use Rattle.bits.specs.Image.{image, columns}
 use Rattle.bits.specs.Parity.{parity, dot}
-use Rattle.span.specs.Search.{someBelow}
+use Rattle.kinds.specs.Search.{someBelow}
 use Rattle.span.specs.Sums.{independent?}
 use Rattle.span.specs.Rows.{dots, rows}
 use Rattle.order.specs.Order.{place}

@@ -13,7 +13,7 @@ use Rattle.kinds.specs.Refusal.{said}
 use Rattle.kinds.specs.Lowest.{lowest}
 use Rattle.kinds.specs.declared.Answer.{Answer}
 use Rattle.kinds.specs.declared.Answer.the-variants.{Done}
-use Rattle.kinds.proofs.AnswerLaws.{answers-done, answers-same, answers-agree}
+use Rattle.kinds.proofs.AnswerLaws.{said-same, answers-done, answers-same, answers-agree}
 use Rattle.order.specs.Order.{Order, Undoes}
 use Rattle.order.specs.Table.{inverseLengths, moverLengths, inverseTable, moverTable}
 use Rattle.order.specs.Tools.{Inverts, Moves}
@@ -37,13 +37,13 @@ module _ (e : Edition) (n : ℕ) (C : List ℕ) where
 
   pub inverts-unique : (out a b : List ℕ) (r s : Answer) → Inverts e n C out a r → Inverts e n C out b s → (r ≡ s) × (a ≡ b)
   inverts-unique out a b r s p q = (
-    answers-same p q,
+    said-same r s (answers-same p q),
     answers-agree p q (λ l u w. undoes-unique (inverse-sound out l) u w) (λ k l. k ∙ sym l),
   )
 
   pub moves-unique : (frame out a b : List ℕ) (r s : Answer) → Moves e n C frame out a r → Moves e n C frame out b s → (r ≡ s) × (a ≡ b)
   moves-unique frame out a b r s p q = (
-    answers-same p q,
+    said-same r s (answers-same p q),
     answers-agree p q (λ l u w. moved-unique (mover-sound frame out l .2) u w) (λ k l. k ∙ sym l),
   )
 
@@ -52,9 +52,9 @@ round : (e : Edition) (n : ℕ) (C D frame out moved buffer home : List ℕ) (r 
     → r ≡ Done → Moves e n C frame out moved r → Moves e n D moved buffer home s → (s ≡ Done) × (home ≡ frame)
 round e n C D frame out moved buffer home r s u l d there back =
     let (sized, whole, o) = mover-sound e n C frame out (sym (there .lowest-of) ∙ ap said d) in
-    let m = there .done d in
+    let m = there .done (ap said d) in
     let done = mover-done e n D moved buffer home s sized (undoes-order o u) (m .whole) l back in
-    (done, moved-home o u whole m (back .done done))
+    (done, moved-home o u whole m (back .done (ap said done)))
 
 module _ (e : Edition) (n : ℕ) (C D frame out moved inverse buffer home : List ℕ) (r q s : Answer) (l : length buffer ≡ 2 ^ n)
     (d : r ≡ Done) (undo : Inverts e n C inverse D q) where
@@ -63,10 +63,10 @@ module _ (e : Edition) (n : ℕ) (C D frame out moved inverse buffer home : List
   moved-and-back i there back =
       let (sized, whole, o) = mover-sound e n C frame out (sym (there .lowest-of) ∙ ap said d) in
       let undone = answers-done (order-sound (sizedN? e n) n C (inverseLengths n inverse) .1 (sized, (i, tt), o)) undo in
-      let (done, same) = round e n C D frame out moved buffer home r s (undo .done undone) l d there back in
+      let (done, same) = round e n C D frame out moved buffer home r s (undo .done (ap said undone)) l d there back in
       (undone, done, same)
 
   pub back-and-moved : q ≡ Done → Moves e n D frame out moved r → Moves e n C moved buffer home s → (s ≡ Done) × (home ≡ frame)
   back-and-moved undone there back =
       let o = inverse-sound e n C inverse (sym (undo .lowest-of) ∙ ap said undone) in
-      round e n D C frame out moved buffer home r s (undoes-sym o (undo .done undone)) l d there back
+      round e n D C frame out moved buffer home r s (undoes-sym o (undo .done (ap said undone))) l d there back

@@ -14,7 +14,7 @@ use Rattle.kinds.specs.Edition.{Edition, sizedN?}
 use Rattle.kinds.specs.Lowest.{Reason, unless}
 use Rattle.kinds.specs.Reasons.{outside, wrongLength}
 use Rattle.kinds.specs.declared.Refusal.the-variants.{TooLarge, Dependent}
-use Rattle.span.specs.Search.{someBelow}
+use Rattle.kinds.specs.Search.{someBelow}
 use Rattle.span.specs.Sums.{independent?}
 
 abbrev pub ColumnTooLarge : ℕ → List ℕ → Type 0

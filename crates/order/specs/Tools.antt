@@ -5,13 +5,14 @@ use Prim.Native.Nat.{ℕ}
 use mathlib.Core.Path.{_≡_}
 use mathlib.Core.List.{List}
 use Rattle.kinds.specs.Edition.{Edition}
+use Rattle.kinds.specs.Refusal.{said}
 use Rattle.kinds.specs.Answers.{Answers}
 use Rattle.kinds.specs.declared.Answer.{Answer}
 use Rattle.order.specs.Order.{Undoes, Moved}
 use Rattle.order.specs.Table.{inverseTable, moverTable}
 
 abbrev pub Inverts : Edition → ℕ → List ℕ → List ℕ → List ℕ → Answer → Type 0
-Inverts e n C out out' r = Answers (inverseTable e n C out) r (Undoes n C out') (out' ≡ out)
+Inverts e n C out out' r = Answers (inverseTable e n C out) (said r) (Undoes n C out') (out' ≡ out)
 
 abbrev pub Moves : Edition → ℕ → List ℕ → List ℕ → List ℕ → List ℕ → Answer → Type 0
-Moves e n C frame out out' r = Answers (moverTable e n C frame out) r (Moved n C frame out') (out' ≡ out)
+Moves e n C frame out out' r = Answers (moverTable e n C frame out) (said r) (Moved n C frame out') (out' ≡ out)

@@ -12,16 +12,17 @@ use Rattle.kinds.specs.Edition.{edition1, sized?}
 use Rattle.kinds.specs.Refusal.{given}
 use Rattle.kinds.specs.Lowest.{lowest}
 use Rattle.kinds.specs.Reasons.{rightLengths?}
-use Rattle.span.specs.Search.{eachBelow}
+use Rattle.kinds.specs.Search.{eachBelow}
 use Rattle.sheet.specs.Sheet.{stagesIn, writeSide, readSide}
-use Rattle.sheet.specs.Layout.{fromTo?, stageInRange?, eachStage?, allBelow?, inRange?, allZero?, formedSide?, wellFormed?}
+use Rattle.bits.specs.Image.{allBelow?}
+use Rattle.sheet.specs.Layout.{fromTo?, stageInRange?, eachStage?, inRange?, allZero?, formedSide?, wellFormed?}
 use Rattle.sheet.specs.Table.{sheetTable}
 use Rattle.sheet.specs.Price.{total, priceOf}
 
-abbrev zeros : ℕ → List ℕ
+abbrev pub zeros : ℕ → List ℕ
 zeros n = replicate n 0
 
-abbrev reversal : List ℕ
+abbrev pub reversal : List ℕ
 reversal =
     (2 ∷ 1 ∷ 0 ∷ zeros 7) ++ (1 ∷ zeros 4) ++ (1 ∷ 1 ∷ 2 ∷ zeros 14)
     ++ (0 ∷ 1 ∷ 2 ∷ zeros 7) ++ (1 ∷ zeros 4) ++ (1 ∷ 1 ∷ 2 ∷ zeros 14)
@@ -72,7 +73,6 @@ one-tick : map (λ l. answer 2 2 (l ++ l)) (
 unfolding lowest sized? decLe rightLengths? ℕ-discrete stagesIn fromTo? stageInRange? eachStage? allBelow? inRange? allZero? formedSide? wellFormed? eachBelow decLt
 one-tick = refl
 
-prices : (priceOf edition1 3 1 reversal ≡ record { switches = 2; multiplexers = 2; gates = 0 })
-    × (priceOf edition1 10 5 (staged 8 ++ staged 8) ≡ record { switches = 256; multiplexers = 256; gates = 64 })
+prices : (priceOf edition1 3 1 reversal ≡ 2 ∷ 2 ∷ 0 ∷ []) × (priceOf edition1 10 5 (staged 8 ++ staged 8) ≡ 256 ∷ 256 ∷ 64 ∷ [])
 unfolding stagesIn total ones
 prices = (refl, refl)

@@ -6,13 +6,13 @@ use Prim.Native.Nat.{ℕ, _*_, _≤_}
 use mathlib.Core.Path.{_≡_}
 use mathlib.Core.List.{List}
 use lib.ListN.{length}
-use Rattle.kinds.specs.Edition.{Edition, Sized, side}
+use Rattle.kinds.specs.Edition.{Edition, Sized, sidePlaces}
 use Rattle.sheet.specs.Sheet.{stagesIn}
 use Rattle.sheet.specs.Layout.{EachStage}
 
 pub record Whole (e : Edition) (n k : ℕ) (l : List ℕ) : Type 0 where
   pub sized : Sized e n k
-  pub places : length l ≡ side e
+  pub places : length l ≡ sidePlaces e
 
 abbrev pub Room : ℕ → List ℕ → Type 0
 Room m l = 2 * m ≤ length l

@@ -1,32 +1,32 @@
 -- When a sheet keeps the layout (01, 'What a sheet holds').
 --   FromTo a b x          x is from a to b
---   StageInRange b t s    the direction of s is from 1 to b - 1, its control from 1 to t - 1
+--   StageInRange ports ticks s    the direction of s is from 1 to ports - 1, its control from 1 to ticks - 1
 --   EachStage Q ss        every stage of ss has Q
 --   InRange n k S         every number that the side S uses is in its range: addresses below 2^t, wiring below 2^k,
 --                         "a direction is from 1 to 2^k - 1, a control from 1 to 2^t - 1"
 --   AllZero l             every place of l is zero
 --   FormedSide e n k l    a side with the places l keeps the layout: what is used is in range, and "unused places are zero"
 --   WellFormed e n k s    both sides of the sheet s do
---   fromTo?, stageInRange?, eachStage?, allBelow?, inRange?, allZero?, formedSide?, wellFormed?      whether each of these is so
+--   fromTo?, stageInRange?, eachStage?, inRange?, allZero?, formedSide?, wellFormed?      whether each of these is so
 use Prim.Native.Nat.{ℕ, _-_, _*_, _^_, _<_, _≤_}
 use mathlib.Core.Path.{_≡_}
 use mathlib.Core.List.{List, [], _∷_}
-use native.Mathlib.Decide.{ℕ-discrete, decLe, decLt}
+use native.Mathlib.Decide.{ℕ-discrete, decLe}
 use lib.ListN.{length, drop, getD}
 use Rattle.kinds.specs.Decided.{both, through}
 use Rattle.kinds.specs.Edition.{Edition}
 use Rattle.kinds.specs.Frame.{tickBits}
-use Rattle.bits.specs.Image.{AllBelow}
-use Rattle.span.specs.Search.{eachBelow}
+use Rattle.bits.specs.Image.{AllBelow, allBelow?}
+use Rattle.kinds.specs.Search.{eachBelow}
 use Rattle.sheet.specs.Sheet.{Stage, Side, addressPlaces, wiringPlaces, countPlace, stagePlaces, sideOf, writePlaces, readPlaces}
 
 pub record FromTo (a b x : ℕ) : Type 0 where
   pub least : a ≤ x
   pub most : x ≤ b
 
-pub record StageInRange (b t : ℕ) (s : Stage) : Type 0 where
-  pub direction : FromTo 1 (b - 1) (s .direction)
-  pub control : FromTo 1 (t - 1) (s .control)
+pub record StageInRange (ports ticks : ℕ) (s : Stage) : Type 0 where
+  pub direction : FromTo 1 (ports - 1) (s .direction)
+  pub control : FromTo 1 (ticks - 1) (s .control)
 
 abbrev pub EachStage : (Stage → Type 0) → List Stage → Type 0
 EachStage Q [] = Unit
@@ -41,8 +41,8 @@ abbrev pub AllZero : List ℕ → Type 0
 AllZero l = (j : ℕ) → j < length l → getD l j 0 ≡ 0
 
 pub record FormedSide (e : Edition) (n k : ℕ) (l : List ℕ) : Type 0 where
-  pub used : InRange n k (sideOf e n k l)
   pub count : countPlace e l ≤ e .most-stages
+  pub used : InRange n k (sideOf e n k l)
   pub addresses-unused : AllZero (drop n (addressPlaces e l))
   pub wiring-unused : AllZero (drop k (wiringPlaces e l))
   pub stages-unused : AllZero (drop (2 * countPlace e l) (stagePlaces e l))
@@ -55,19 +55,15 @@ unfoldable pub fromTo? : (a b x : ℕ) → Dec (FromTo a b x)
 unfolding decLe
 fromTo? a b x = through (λ (l, m). record { least = l; most = m }, λ r. (r .least, r .most)) (both (decLe a x) (decLe x b))
 
-unfoldable pub stageInRange? : (b t : ℕ) (s : Stage) → Dec (StageInRange b t s)
+unfoldable pub stageInRange? : (ports ticks : ℕ) (s : Stage) → Dec (StageInRange ports ticks s)
 unfolding fromTo?
-stageInRange? b t s =
+stageInRange? ports ticks s =
     through (λ (d, c). record { direction = d; control = c }, λ r. (r .direction, r .control))
-    (both (fromTo? 1 (b - 1) (s .direction)) (fromTo? 1 (t - 1) (s .control)))
+    (both (fromTo? 1 (ports - 1) (s .direction)) (fromTo? 1 (ticks - 1) (s .control)))
 
 unfoldable pub eachStage? : {Q : Stage → Type 0} → ((s : Stage) → Dec (Q s)) → (ss : List Stage) → Dec (EachStage Q ss)
 eachStage? Q? [] = yes tt
 eachStage? Q? (s ∷ ss) = both (Q? s) (eachStage? Q? ss)
-
-unfoldable pub allBelow? : (b : ℕ) (l : List ℕ) → Dec (AllBelow b l)
-unfolding eachBelow
-allBelow? b l = eachBelow (λ j. decLt (getD l j 0) b) (length l)
 
 unfoldable pub inRange? : (n k : ℕ) (S : Side) → Dec (InRange n k S)
 unfolding allBelow? eachStage? stageInRange?
@@ -83,10 +79,10 @@ unfoldable pub formedSide? : (e : Edition) (n k : ℕ) (l : List ℕ) → Dec (F
 unfolding inRange? allZero? decLe
 formedSide? e n k l =
     through (
-      λ (u, (c, (a, (w, s)))). record { used = u; count = c; addresses-unused = a; wiring-unused = w; stages-unused = s },
-      λ f. (f .used, (f .count, (f .addresses-unused, (f .wiring-unused, f .stages-unused)))),
+      λ (c, (u, (a, (w, s)))). record { count = c; used = u; addresses-unused = a; wiring-unused = w; stages-unused = s },
+      λ f. (f .count, (f .used, (f .addresses-unused, (f .wiring-unused, f .stages-unused)))),
     )
-    (both (inRange? n k (sideOf e n k l)) (both (decLe (countPlace e l) (e .most-stages)) (both (allZero? (drop n (addressPlaces e l)))
+    (both (decLe (countPlace e l) (e .most-stages)) (both (inRange? n k (sideOf e n k l)) (both (allZero? (drop n (addressPlaces e l)))
     (both (allZero? (drop k (wiringPlaces e l))) (allZero? (drop (2 * countPlace e l) (stagePlaces e l)))))))
 
 unfoldable pub wellFormed? : (e : Edition) (n k : ℕ) (s : List ℕ) → Dec (WellFormed e n k s)

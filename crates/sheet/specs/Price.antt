@@ -4,16 +4,21 @@
 --   multiplexers k s     "a switch is priced as one multiplexer"
 --   xorGates s           "the ones in its control number, less one"
 --   allStages e n k s    the stages of both sides of the sheet s
---   priceOf e n k s      its price: "three sums over both sides"
---   priced o p           what the price tool answers: the price p, or the refusal o if there is one
+--   priceOf e n k s      its price: "three sums over both sides: switches, multiplexers, xor gates"
+--   refusalOf a          the refusal that the price tool's answer a gives; none where it gives a price
+--   sumsOf a             the numbers that a carries: the three sums, or those of the refusal
+--   Prices e n k s a     the price tool: a is the lowest of 1, 2 and 5 that applies, and carries the price where none does
 use Prim.Native.Nat.{ℕ, _+_, _-_, _*_, _^_}
+use mathlib.Core.Path.{_≡_}
 use mathlib.Core.List.{List, [], _∷_, _++_}
 use mathlib.Core.Option.{Option, none, some}
 use lib.Count.{ones}
+use Rattle.kinds.specs.Answers.{Answers}
 use Rattle.kinds.specs.Edition.{Edition}
+use Rattle.kinds.specs.Refusal.{valuesOf}
 use Rattle.kinds.specs.declared.Refusal.{Refusal}
 use Rattle.sheet.specs.Sheet.{Stage, writeSide, readSide}
-use Rattle.sheet.specs.declared.Sums.{Sums}
+use Rattle.sheet.specs.Table.{sheetTable}
 use Rattle.sheet.specs.declared.Priced.{Priced}
 use Rattle.sheet.specs.declared.Priced.the-variants.{Costs, Refused}
 
@@ -33,13 +38,18 @@ xorGates s = ones (s .control) - 1
 abbrev pub allStages : Edition → ℕ → ℕ → List ℕ → List Stage
 allStages e n k s = writeSide e n k s .stages ++ readSide e n k s .stages
 
-abbrev pub priceOf : Edition → ℕ → ℕ → List ℕ → Sums
-priceOf e n k s = record {
-  switches = total (switches k) (allStages e n k s);
-  multiplexers = total (multiplexers k) (allStages e n k s);
-  gates = total xorGates (allStages e n k s);
-}
+abbrev pub priceOf : Edition → ℕ → ℕ → List ℕ → List ℕ
+priceOf e n k s =
+    let both = allStages e n k s in
+    total (switches k) both ∷ total (multiplexers k) both ∷ total xorGates both ∷ []
 
-abbrev pub priced : Option Refusal → Sums → Priced
-priced none p = Costs p
-priced (some x) p = Refused x
+abbrev pub refusalOf : Priced → Option Refusal
+refusalOf (Costs p) = none
+refusalOf (Refused x) = some x
+
+abbrev pub sumsOf : Priced → List ℕ
+sumsOf (Costs p) = p .switches ∷ p .multiplexers ∷ p .gates ∷ []
+sumsOf (Refused x) = valuesOf x
+
+abbrev pub Prices : Edition → ℕ → ℕ → List ℕ → Priced → Type 0
+Prices e n k s a = Answers (sheetTable e n k s []) (refusalOf a) (sumsOf a ≡ priceOf e n k s) Unit

@@ -10,7 +10,7 @@
 use Prim.Native.Nat.{ℕ, zero, suc, _+_, _*_}
 use mathlib.Core.List.{List, [], _∷_, _++_}
 use lib.ListN.{take, drop, getD}
-use Rattle.kinds.specs.Edition.{Edition, side}
+use Rattle.kinds.specs.Edition.{Edition, sidePlaces}
 
 pub record Stage : Type 0 where
   pub direction : ℕ
@@ -48,10 +48,10 @@ sideOf e n k l = record {
 }
 
 abbrev pub writePlaces : Edition → List ℕ → List ℕ
-writePlaces e s = take (side e) s
+writePlaces e s = take (sidePlaces e) s
 
 abbrev pub readPlaces : Edition → List ℕ → List ℕ
-readPlaces e s = drop (side e) s
+readPlaces e s = drop (sidePlaces e) s
 
 abbrev pub writeSide : Edition → ℕ → ℕ → List ℕ → Side
 writeSide e n k s = sideOf e n k (writePlaces e s)

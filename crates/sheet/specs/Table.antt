@@ -4,7 +4,7 @@
 use Prim.Native.Nat.{ℕ}
 use mathlib.Core.List.{List, [], _∷_}
 use lib.ListN.{length}
-use Rattle.kinds.specs.Edition.{Edition, sheet, sized?}
+use Rattle.kinds.specs.Edition.{Edition, sheetPlaces, sized?}
 use Rattle.kinds.specs.Lowest.{Reason, unless}
 use Rattle.kinds.specs.Reasons.{outside, wrongLength}
 use Rattle.kinds.specs.declared.Refusal.the-variants.{Layout}
@@ -14,4 +14,4 @@ abbrev pub brokenLayout : Edition → ℕ → ℕ → List ℕ → Reason
 brokenLayout e n k s = unless Layout (wellFormed? e n k s)
 
 abbrev pub sheetTable : Edition → ℕ → ℕ → List ℕ → List (ℕ × ℕ) → List Reason
-sheetTable e n k s others = outside (sized? e n k) ∷ wrongLength ((length s, sheet e) ∷ others) ∷ brokenLayout e n k s ∷ []
+sheetTable e n k s others = outside (sized? e n k) ∷ wrongLength ((length s, sheetPlaces e) ∷ others) ∷ brokenLayout e n k s ∷ []

@@ -1,27 +1,25 @@
 // Sheets: the check of the layout, and the price.
 ghost use mathlib.Core.Path.{_≡_};
-ghost use mathlib.Core.List.{[]};
 ghost use Rattle.kinds.specs.Answers.{Says, Checks};
 ghost use Rattle.kinds.specs.Edition.{edition1};
-ghost use Rattle.kinds.specs.Lowest.{lowest};
 ghost use Rattle.sheet.specs.Sheet.{stagesIn};
 ghost use Rattle.sheet.specs.Layout.{StageInRange, EachStage, FormedSide};
 ghost use Rattle.sheet.specs.Table.{sheetTable};
-ghost use Rattle.sheet.specs.Price.{total, xorGates, priceOf, priced};
+ghost use Rattle.sheet.specs.Price.{total, xorGates, Prices};
 ghost use Rattle.sheet.specs.Inside.{Whole, Room, Controlled};
 use kinds::Answer;
 use kinds::Refusal;
 
 // The places of edition 1, as 01's table has them; the address columns start at 0.
-const WIRING: usize = 10;
+pub const WIRING: usize = 10;
 
-const COUNT: usize = 15;
+pub const COUNT: usize = 15;
 
-const STAGES: usize = 16;
+pub const STAGES: usize = 16;
 
-const SIDE: usize = 32;
+pub const SIDE: usize = 32;
 
-const SHEET: usize = 64;
+pub const SHEET: usize = 64;
 
 const MOST_STAGES: usize = 8;
 
@@ -117,11 +115,11 @@ pub enum Priced {
 }
 
 // "A switch is priced as one multiplexer" (01).
-const SWITCH: u32 = 1;
+const MULTIPLEXERS_OF_A_SWITCH: u32 = 1;
 
 // What the stages of both sides cost. 1, 2 and 5.
 pub fn price(n: u32, k: u32, sheet: &[u16]) -> Priced
-    ensures { λ r. ⌜ r ≡ priced (lowest (sheetTable edition1 n k (now (sheet .entry)) [])) (priceOf edition1 n k (now (sheet .entry))) ⌝ }
+    ensures { λ r. ⌜ Prices edition1 n k (now (sheet .entry)) r ⌝ }
 {
     let answer = check(n, k, sheet, true);
     if let Answer::Refused(refusal) = answer {
@@ -132,10 +130,12 @@ pub fn price(n: u32, k: u32, sheet: &[u16]) -> Priced
     let switches = (write as u32 + read as u32) * bits::two_to(k - 1);
     let write_gates = xor_gates(&sheet[STAGES..SIDE], write);
     let read_gates = xor_gates(&sheet[SIDE + STAGES..], read);
+    let multiplexers = MULTIPLEXERS_OF_A_SWITCH * switches;
+    let gates = write_gates + read_gates;
     Priced::Costs(Sums {
         switches,
-        multiplexers: SWITCH * switches,
-        gates: write_gates + read_gates,
+        multiplexers,
+        gates,
     })
 }
 

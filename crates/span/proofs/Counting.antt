@@ -4,19 +4,20 @@
 --   preimages             a map onto has a preimage of each number, to be computed
 --   onto-injective        a map onto the numbers below N is injective
 --   injective-bijection, onto-bijection    an injective map of the numbers below N is a bijection, and so is one onto them
+--   bijection-same        a map that agrees with a bijection below N is one
 --   bijection-inverse     a bijection has an inverse, to be computed
 --   pow-injective-le      powers of two are in the order of their exponents
 --   injective-width       no injective map from a bits into b bits unless a ≤ b
 --   onto-width            no map from s bits onto k bits unless k ≤ s
 use Prim.Native.Nat.{ℕ, zero, suc, _-_, _^_, _≤_, _<_, zero-le}
-use mathlib.Core.Path.{_≡_}
+use mathlib.Core.Path.{_≡_, sym, _∙_}
 use mathlib.Core.Logic.{_≢_}
 use native.Mathlib.Nat.{le-step, ne-of-lt}
 use native.Mathlib.Decide.{ℕ-discrete, decLe, decLt}
 use native.Mathlib.Omega.{arith}
 use lib.Pow.{pow-lt}
 use Rattle.span.specs.Maps.{Into, Injective, Onto, Bijection}
-use Rattle.span.specs.Search.{someBelow}
+use Rattle.kinds.specs.Search.{someBelow}
 
 -- x, but y where x is top
 abbrev instead : {x top : ℕ} → Dec (x ≡ top) → ℕ → ℕ
@@ -81,6 +82,10 @@ injective-bijection into injective = record { into = into; injective = injective
 
 pub onto-bijection : {f : ℕ → ℕ} {N : ℕ} → Into f N N → Onto f N N → Bijection f N
 onto-bijection into onto = record { into = into; injective = onto-injective onto; onto = onto }
+
+pub bijection-same : {f g : ℕ → ℕ} {N : ℕ} → ((i : ℕ) → i < N → f i ≡ g i) → Bijection g N → Bijection f N
+bijection-same same b =
+    injective-bijection (λ i h. rw (same i h) (b .into i h)) (λ i j h k e. b .injective i j h k (sym (same i h) ∙ e ∙ same j k))
 
 pub bijection-inverse : {f : ℕ → ℕ} {N : ℕ} → Bijection f N
     → (g : ℕ → ℕ) × Into g N N × ((y : ℕ) → y < N → f (g y) ≡ y) × ((x : ℕ) → x < N → g (f x) ≡ x)

@@ -21,7 +21,7 @@ use Rattle.bits.specs.Image.{chosen, image, AllBelow, columns}
 use Rattle.bits.specs.Parity.{bit, dot}
 use Rattle.bits.proofs.ParityLaws.{bit-same, bit-other, dot-lt, dot-comm, dot-zero, dot-xor-right}
 use Rattle.bits.proofs.ImageLaws.{image-cons, image-xor, image-unit, image-lt, linear-agree, columns-length, columns-at}
-use Rattle.span.specs.Search.{someBelow}
+use Rattle.kinds.specs.Search.{someBelow}
 use Rattle.span.specs.Sums.{SumOf, Independent}
 use Rattle.span.specs.Rows.{dots, Duals}
 use Rattle.span.proofs.RowLaws.{dots-bit, dots-nil, dots-cons, dots-lt, dots-xor, dot-image, dot-same}

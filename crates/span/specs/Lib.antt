@@ -1,6 +1,5 @@
 -- Sums, independence, rank and the scan, for lists of numbers of any width and length.
 pub mod Maps
-pub mod Search
 pub mod Sums
 pub mod Scan
 pub mod Rows

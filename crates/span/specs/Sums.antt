@@ -10,7 +10,7 @@ use mathlib.Core.Logic.{_≢_}
 use native.Mathlib.Decide.{ℕ-discrete}
 use lib.ListN.{length}
 use Rattle.bits.specs.Image.{image}
-use Rattle.span.specs.Search.{someBelow}
+use Rattle.kinds.specs.Search.{someBelow}
 
 pub record SumOf (cs : List ℕ) (v : ℕ) : Type 0 where
   pub selected : ℕ

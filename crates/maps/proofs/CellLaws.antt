@@ -1,0 +1,221 @@
+-- Laws of a side's map.
+--   directions ss, controls ss      the directions of the stages ss, and their controls
+--   selected ss c       the sum of the directions whose controls AND c have an odd number of ones
+--   after-append        stages after stages
+--   stages-sum          what stages do to a bank: they xor in the selected directions
+--   bank-parts          the bank of a word: what the wiring makes of its port, and the stages of its tick
+--   same-bank           two words of one tick share a bank exactly when the wiring sends their ports to one bank
+--   directions-below    directions in range are below 2^k
+--   bank-lt, address-lt, cell-lt    banks, addresses and cells are below 2^k, 2^t and 2^n
+--   bank-of-cell, address-of-cell   a cell number has the bank and the address of the word that is there
+--   cell-word           the cell of the word at a tick and port is the map's
+--   cell-linear         a side's map is linear
+--   cell-columns        so it is the image under its columns
+--   cell-bijection      it is a bijection of the words and the cells exactly when its columns are independent
+--   wiring-part         its port-to-bank part is the wiring
+--   stages-part         its tick-to-bank part is the stages'
+--   stages-made         stages that make up each column of a linear map of tick bits make up the map
+--   port-column, tick-column    the columns of a side's map, one by one
+--   cell-double         one port bit more: one exclusive or
+use Prim.Native.Nat.{ℕ, zero, suc, _+_, _-_, _*_, _/_, _%_, _^_, _<_, _≤_}
+use mathlib.Core.Path.{_≡_, refl, sym, ap, ap₂, _∙_}
+use mathlib.Core.List.{List, [], _∷_, _++_, map}
+use mathlib.Core.Logic.{_↔_}
+use native.Mathlib.Nat.{pow-suc, mod-eq-of-lt, div-eq-of-lt}
+use native.Mathlib.Omega.{arith}
+use lib.Arith.{digits-lt}
+use lib.Bits.{bitXor, xor-zero-r, xor-comm, xor-lt, xor-block, xor-shr, xor-mod}
+use lib.ListN.{length, getD}
+use lib.Pow.{pow-pos, pow-lt, pow-mono, pow-add, lt-of-le-ones, split, high, low}
+use Rattle.kinds.specs.Frame.{tickBits, tickOf, portOf, wordAt, addressOf, bankOf}
+use Rattle.bits.specs.Image.{chosen, image, AllBelow, Linear}
+use Rattle.bits.specs.Parity.{dot}
+use Rattle.bits.proofs.XorLaws.{xor-assoc, xor-swap, xor-cancel}
+use Rattle.bits.proofs.ParityLaws.{dot-lt}
+use Rattle.bits.proofs.ImageLaws.{image-nil, image-cons, image-zero, image-xor, image-unit, image-lt, linear-image, linear-agree, linear-zero, columns-length, columns-below}
+use Rattle.span.specs.Maps.{Bijection}
+use Rattle.span.specs.Sums.{Independent}
+use Rattle.span.specs.Rows.{dots}
+use Rattle.span.proofs.RowLaws.{dots-cons, dots-xor}
+use Rattle.span.proofs.Counting.{bijection-same}
+use Rattle.span.proofs.SumLaws.{independent-bijection, bijection-independent}
+use Rattle.sheet.specs.Sheet.{Stage, Side}
+use Rattle.sheet.specs.Layout.{StageInRange, EachStage, InRange}
+use Rattle.maps.specs.Cells.{addressAt, afterStages, bankAt, cellAt, cellOf, cellColumns, portToBank, tickToBank}
+
+abbrev pub directions : List Stage → List ℕ
+directions ss = map (λ s. s .direction) ss
+
+abbrev pub controls : List Stage → List ℕ
+controls ss = map (λ s. s .control) ss
+
+abbrev pub selected : List Stage → ℕ → ℕ
+selected ss c = image (directions ss) (dots (controls ss) c)
+
+pub after-append : (ss ts : List Stage) (c b : ℕ) → afterStages (ss ++ ts) c b ≡ afterStages ts c (afterStages ss c b)
+unfolding afterStages
+after-append [] ts c b = refl
+after-append (s ∷ ss) ts c b = after-append ss ts c (bitXor b (chosen (dot (s .control) c) (s .direction)))
+
+selected-linear : (ss : List Stage) → Linear (selected ss)
+selected-linear ss c d = ap (image (directions ss)) (dots-xor (controls ss) c d) ∙ image-xor (directions ss) (dots (controls ss) c) (dots (controls ss) d)
+
+selected-cons : (s : Stage) (ss : List Stage) (c : ℕ) → selected (s ∷ ss) c ≡ bitXor (chosen (dot (s .control) c) (s .direction)) (selected ss c)
+selected-cons s ss c =
+    let odd = dot-lt (s .control) c in
+    let rest = dots (controls ss) c in
+    let low-bit : (dot (s .control) c + 2 * rest) % 2 ≡ dot (s .control) c = omega (arith, odd) in
+    let others : (dot (s .control) c + 2 * rest) / 2 ≡ rest = omega (arith, odd) in
+    ap (image (directions (s ∷ ss))) (dots-cons (s .control) (controls ss) c)
+    ∙ image-cons (s .direction) (directions ss) (dot (s .control) c + 2 * rest)
+    ∙ ap₂ (λ (x y : ℕ). bitXor (chosen x (s .direction)) (image (directions ss) y)) low-bit others
+
+pub stages-sum : (ss : List Stage) (c b : ℕ) → afterStages ss c b ≡ bitXor b (selected ss c)
+unfolding afterStages
+stages-sum [] c b = sym (ap (bitXor b) (image-nil (dots [] c)) ∙ xor-zero-r b)
+stages-sum (s ∷ ss) c b =
+    let one = chosen (dot (s .control) c) (s .direction) in
+    stages-sum ss c (bitXor b one) ∙ xor-assoc b one (selected ss c) ∙ ap (bitXor b) (sym (selected-cons s ss c))
+
+pub stages-made : (ss : List Stage) (t : ℕ) (f : ℕ → ℕ) → Linear f → ((j : ℕ) → j < t → selected ss (2 ^ j) ≡ f (2 ^ j))
+    → (c : ℕ) → c < 2 ^ t → selected ss c ≡ f c
+stages-made ss t f = linear-agree t (selected ss) f (selected-linear ss)
+
+module _ (S : Side) where
+  abbrev wired : ℕ → ℕ
+  wired p = image (S .wiring) p
+
+  port-bank : (p : ℕ) → bankAt S 0 p ≡ wired p
+  port-bank p =
+      stages-sum (S .stages) 0 (wired p)
+      ∙ ap (bitXor (wired p)) (linear-zero (selected (S .stages)) (selected-linear (S .stages)))
+      ∙ xor-zero-r (wired p)
+
+  tick-bank : (c : ℕ) → bankAt S c 0 ≡ selected (S .stages) c
+  tick-bank c = stages-sum (S .stages) c (wired 0) ∙ ap (λ (b : ℕ). bitXor b (selected (S .stages) c)) (image-zero (S .wiring))
+
+  pub bank-parts : (c p : ℕ) → bankAt S c p ≡ bitXor (selected (S .stages) c) (wired p)
+  bank-parts c p = stages-sum (S .stages) c (wired p) ∙ xor-comm (wired p) (selected (S .stages) c)
+
+  pub same-bank : (c p q : ℕ) → bankAt S c p ≡ bankAt S c q ↔ wired p ≡ wired q
+  same-bank c p q = (
+    λ e.
+        let tick = selected (S .stages) c in
+        sym (xor-cancel tick (wired p)) ∙ ap (bitXor tick) (sym (bank-parts c p) ∙ e ∙ bank-parts c q) ∙ xor-cancel tick (wired q),
+    λ e. ap (afterStages (S .stages) c) e,
+  )
+
+  bank-linear : (c d p q : ℕ) → bankAt S (bitXor c d) (bitXor p q) ≡ bitXor (bankAt S c p) (bankAt S d q)
+  bank-linear c d p q =
+      stages-sum (S .stages) (bitXor c d) (wired (bitXor p q))
+      ∙ ap₂ bitXor (image-xor (S .wiring) p q) (selected-linear (S .stages) c d)
+      ∙ xor-swap (wired p) (wired q) (selected (S .stages) c) (selected (S .stages) d)
+      ∙ sym (ap₂ bitXor (stages-sum (S .stages) c (wired p)) (stages-sum (S .stages) d (wired q)))
+
+pub directions-below : (k t : ℕ) (ss : List Stage) → EachStage (StageInRange (2 ^ k) t) ss → AllBelow (2 ^ k) (directions ss)
+directions-below k t [] each j h = absurd (omega arith)
+directions-below k t (s ∷ ss) each zero h = lt-of-le-ones k (each .0 .direction .most)
+directions-below k t (s ∷ ss) each (suc j) h = directions-below k t ss (each .1) j (omega arith)
+
+module _ (k : ℕ) (S : Side) where
+  pub cell-word : (c p : ℕ) → p < 2 ^ k → cellAt k S c p ≡ cellOf k S (wordAt k c p)
+  cell-word c p h = sym (ap₂ (cellAt k S) (high c k h) (low c k h))
+
+  abbrev bank-of : ℕ → ℕ
+  bank-of i = bankAt S (tickOf k i) (portOf k i)
+
+  address-of : (i : ℕ) → addressAt k S (tickOf k i) (portOf k i) ≡ image (S .addresses) i
+  address-of i = ap (image (S .addresses)) (split i k)
+
+  pub port-column : (j : ℕ) → j < k → cellOf k S (2 ^ j) ≡ getD (S .addresses) j 0 * 2 ^ k + getD (S .wiring) j 0
+  port-column j h =
+      let inside = pow-lt h in
+      ap₂ (λ (a b : ℕ). a * 2 ^ k + b) (address-of (2 ^ j) ∙ image-unit (S .addresses) j)
+      (ap₂ (bankAt S) (div-eq-of-lt inside) (mod-eq-of-lt inside) ∙ port-bank S (2 ^ j) ∙ image-unit (S .wiring) j)
+
+  pub tick-column : (j : ℕ) → k ≤ j → cellOf k S (2 ^ j) ≡ getD (S .addresses) j 0 * 2 ^ k + afterStages (S .stages) (2 ^ (j - k)) 0
+  tick-column j h =
+      let above : wordAt k (2 ^ (j - k)) 0 ≡ 2 ^ j = omega (arith, pow-add 2 (j - k) k, ap (λ (x : ℕ). 2 ^ x) (let e : (j - k) + k ≡ j = omega arith in e)) in
+      let tick = ap (tickOf k) (sym above) ∙ high (2 ^ (j - k)) k (pow-pos k) in
+      let port = ap (portOf k) (sym above) ∙ low (2 ^ (j - k)) k (pow-pos k) in
+      ap₂ (λ (a b : ℕ). a * 2 ^ k + b) (address-of (2 ^ j) ∙ image-unit (S .addresses) j)
+      (ap₂ (bankAt S) tick port ∙ ap (afterStages (S .stages) (2 ^ (j - k))) (image-zero (S .wiring)))
+
+-- a number of j bits with bit j set besides, and the same in a word
+xor-above : (j p : ℕ) → p < 2 ^ j → bitXor p (2 ^ j) ≡ 2 ^ j + p
+xor-above j p l =
+    ap₂ bitXor (let e : p ≡ 0 * 2 ^ j + p = omega arith in e) (let e : 2 ^ j ≡ 1 * 2 ^ j + 0 = omega arith in e)
+    ∙ xor-block j 0 1 p 0 l (pow-pos j)
+    ∙ rw (xor-zero-r p) (omega arith)
+
+add-lt : (j k : ℕ) {p : ℕ} → j < k → p < 2 ^ j → 2 ^ j + p < 2 ^ k
+add-lt j k h l = omega (arith, pow-suc 2 j, pow-mono {i = suc j} {j = k} h)
+
+one-bit-more : (k c p j : ℕ) → 2 ^ j < 2 ^ k → p < 2 ^ j → wordAt k c (2 ^ j + p) ≡ bitXor (wordAt k c p) (2 ^ j)
+one-bit-more k c p j h l =
+    sym (ap (bitXor (wordAt k c p)) (let e : 2 ^ j ≡ 0 * 2 ^ k + 2 ^ j = omega arith in e)
+    ∙ xor-block k c 0 p (2 ^ j) (omega (arith, h)) h
+    ∙ ap₂ (λ (a b : ℕ). a * 2 ^ k + b) (xor-zero-r c) (xor-above j p l))
+
+module _ {n k : ℕ} {S : Side} (used : InRange n k S) where
+  pub bank-lt : (c p : ℕ) → bankAt S c p < 2 ^ k
+  bank-lt c p =
+      rw (stages-sum (S .stages) c (wired S p))
+      (xor-lt k (wired S p) (selected (S .stages) c) (image-lt k (S .wiring) (used .wiring) p)
+      (image-lt k (directions (S .stages)) (directions-below k (2 ^ tickBits n k) (S .stages) (used .stages)) (dots (controls (S .stages)) c)))
+
+  pub address-lt : (c p : ℕ) → addressAt k S c p < 2 ^ tickBits n k
+  address-lt c p = image-lt (tickBits n k) (S .addresses) (used .addresses) (wordAt k c p)
+
+  pub bank-of-cell : (c p : ℕ) → bankOf k (cellAt k S c p) ≡ bankAt S c p
+  bank-of-cell c p = low (addressAt k S c p) k (bank-lt c p)
+
+  pub address-of-cell : (c p : ℕ) → addressOf k (cellAt k S c p) ≡ addressAt k S c p
+  address-of-cell c p = high (addressAt k S c p) k (bank-lt c p)
+
+  pub wiring-part : (p : ℕ) → p < 2 ^ k → portToBank k (cellOf k S) p ≡ image (S .wiring) p
+  wiring-part p h = ap (bankOf k) (sym (cell-word k S 0 p h)) ∙ bank-of-cell 0 p ∙ port-bank S p
+
+  pub stages-part : (c : ℕ) → tickToBank k (cellOf k S) c ≡ selected (S .stages) c
+  stages-part c = ap (bankOf k) (sym (cell-word k S c 0 (pow-pos k))) ∙ bank-of-cell c 0 ∙ tick-bank S c
+
+  pub cell-lt : k ≤ n → (c p : ℕ) → cellAt k S c p < 2 ^ n
+  cell-lt within c p =
+      let all : tickBits n k + k ≡ n = omega arith in
+      omega (arith, digits-lt (address-lt c p) (bank-lt c p), pow-add 2 (tickBits n k) k, ap (λ (x : ℕ). 2 ^ x) all)
+
+  pub cell-linear : Linear (cellOf k S)
+  cell-linear x y =
+      ap₂ (λ (a b : ℕ). a * 2 ^ k + b) address bank
+      ∙ sym (xor-block k (image (S .addresses) x) (image (S .addresses) y) (bank-of k S x) (bank-of k S y) (bank-lt (tickOf k x) (portOf k x)) (bank-lt (tickOf k y) (portOf k y)))
+      ∙ sym (ap₂ (λ (a b : ℕ). bitXor (a * 2 ^ k + bank-of k S x) (b * 2 ^ k + bank-of k S y)) (address-of k S x) (address-of k S y))
+    where
+      address : addressAt k S (tickOf k (bitXor x y)) (portOf k (bitXor x y)) ≡ bitXor (image (S .addresses) x) (image (S .addresses) y)
+      address = address-of k S (bitXor x y) ∙ image-xor (S .addresses) x y
+
+      bank : bank-of k S (bitXor x y) ≡ bitXor (bank-of k S x) (bank-of k S y)
+      bank = ap₂ (bankAt S) (xor-shr x y k) (xor-mod x y k) ∙ bank-linear S (tickOf k x) (tickOf k y) (portOf k x) (portOf k y)
+
+  pub cell-columns : (i : ℕ) → i < 2 ^ n → cellOf k S i ≡ image (cellColumns n k S) i
+  cell-columns = linear-image n (cellOf k S) cell-linear
+
+  pub cell-bijection : k ≤ n → Bijection (cellOf k S) (2 ^ n) ↔ Independent (cellColumns n k S)
+  cell-bijection within = (
+    λ b. bijection-independent n (cellColumns n k S) count (bijection-same (λ i h. sym (cell-columns i h)) b),
+    λ ind. bijection-same cell-columns (independent-bijection n (cellColumns n k S) count below ind),
+  )
+    where
+      count : length (cellColumns n k S) ≡ n
+      count = columns-length n (cellOf k S)
+
+      below : AllBelow (2 ^ n) (cellColumns n k S)
+      below = columns-below n (2 ^ n) (cellOf k S) (λ j h. cell-lt within (tickOf k (2 ^ j)) (portOf k (2 ^ j)))
+
+  pub cell-double : (c p j : ℕ) → j < k → p < 2 ^ j → cellAt k S c (2 ^ j + p) ≡ bitXor (cellAt k S c p) (cellOf k S (2 ^ j))
+  cell-double c p j h l =
+      let below = pow-lt h in
+      let sum = add-lt j k h l in
+      cell-word k S c (2 ^ j + p) sum
+      ∙ ap (cellOf k S) (one-bit-more k c p j below l)
+      ∙ cell-linear (wordAt k c p) (2 ^ j)
+      ∙ ap (λ (x : ℕ). bitXor x (cellOf k S (2 ^ j))) (sym (cell-word k S c p (omega (arith, below))))

@@ -1,0 +1,223 @@
+-- An opened side does what the side does that it shows: the zeros after what is used change nothing.
+--   zeros-at          every place of a list of zeros shows 0
+--   padded-length     a padded list has openWidth places
+--   padded-at         it shows the numbers of the list, and zeros after them
+--   padded-unique     a list of openWidth places that shows the numbers of another is that one, padded
+--   padded-used       what is zero may be left out before
+--   stages-length     the first m stages are m
+--   flat-part         stages that are read off some places are the first of these places
+--   after-none, after-more    the bank before any stage, and after one stage more
+--   same-image        columns that show the same numbers have the same images
+--   shown-k           an opened side knows k
+--   shown-addresses, shown-wiring    its columns are those of the side
+--   shown-stages      its stages leave the same bank
+--   whole-number      a cell loses no bit as a number of 16 bits
+--   closed-shows      what stands for a side of a refused sheet shows one too, so that nothing is asked of a side that shows none
+--   opens-unique      opening a sheet has one answer
+use Prim.Native.Nat.{ℕ, zero, suc, _+_, _-_, _*_, _%_, _^_, _≤_, _<_}
+use mathlib.Core.Path.{_≡_, refl, sym, ap, ap₂, _∙_}
+use mathlib.Core.Bool.{Bool}
+use mathlib.Core.List.{List, [], _∷_, _++_, append-assoc}
+use native.Mathlib.Decide.{decLt}
+use native.Mathlib.Nat.{mod-eq-of-lt, pow-suc}
+use native.Mathlib.Numerals.{add-one}
+use native.Mathlib.Omega.{arith}
+use lib.Bits.{bitXor, xor-zero-r}
+use lib.ListN.{length, getD, take, drop, replicate, length-take, length-append, length-replicate, List·getD-append, List·getD-eq-default}
+use lib.Pow.{pow-mono}
+use lib.Seq.{getD-take, getD-drop, getD-append-add, take-suc, ext-getD}
+use Rattle.kinds.specs.Edition.{Edition}
+use Rattle.kinds.specs.declared.Answer.{Answer}
+use Rattle.kinds.specs.declared.Answer.the-variants.{Done, Refused}
+use Rattle.kinds.proofs.AnswerLaws.{checks-unique}
+use Rattle.bits.specs.Image.{chosen, image}
+use Rattle.bits.specs.Parity.{dot}
+use Rattle.bits.proofs.ImageLaws.{image-xor, image-unit, linear-agree}
+use Rattle.sheet.specs.Sheet.{Stage, Side, stageAt, stagesIn}
+use Rattle.sheet.specs.Layout.{AllZero}
+use Rattle.sheet.specs.Table.{sheetTable}
+use Rattle.maps.specs.Cells.{switched, afterStages, cellAt}
+use Rattle.maps.specs.Opened.{openWidth, openStages, padded, flat, closed, Shows, Opens}
+use Rattle.maps.specs.declared.OpenSide.{OpenSide}
+use Rattle.maps.specs.declared.Opened.{Opened}
+use Rattle.maps.proofs.CellLaws.{after-append, cell-lt}
+
+pub zeros-at : (m j : ℕ) → _≡_ {A = ℕ} (getD (replicate m 0) j 0) 0
+zeros-at zero j = refl
+zeros-at (suc m) zero = refl
+zeros-at (suc m) (suc j) = zeros-at m j
+
+pub padded-length : (l : List ℕ) → length l ≤ openWidth → length (padded l) ≡ openWidth
+padded-length l h = omega (arith, length-append l (replicate (openWidth - length l) 0), length-replicate {A = ℕ} (openWidth - length l) 0)
+
+pub padded-at : (l : List ℕ) (j : ℕ) → getD (padded l) j 0 ≡ getD l j 0
+padded-at l j = elim (decLt j (length l)) [
+  | yes h ↦ List·getD-append l (replicate (openWidth - length l) 0) 0 j h
+  | no h ↦
+      ap (λ (x : ℕ). getD (padded l) x 0) {x = j} {y = length l + (j - length l)} (omega arith)
+      ∙ getD-append-add l (replicate (openWidth - length l) 0) (j - length l) 0
+      ∙ zeros-at (openWidth - length l) (j - length l)
+      ∙ sym (List·getD-eq-default l 0 (omega arith))
+]
+
+pub padded-unique : (l r : List ℕ) → length l ≤ openWidth → length r ≡ openWidth → ((j : ℕ) → getD r j 0 ≡ getD l j 0) → r ≡ padded l
+padded-unique l r few whole same = ext-getD 0 r (padded l) (whole ∙ sym (padded-length l few)) (λ j h. same j ∙ sym (padded-at l j))
+
+zero-from : (i : ℕ) (l : List ℕ) → AllZero (drop i l) → (j : ℕ) → i ≤ j → getD l j 0 ≡ 0
+zero-from i l zeros j h =
+    ap (λ (x : ℕ). getD l x 0) {x = j} {y = i + (j - i)} (omega arith)
+    ∙ sym (getD-drop i l (j - i) 0)
+    ∙ elim (decLt (j - i) (length (drop i l))) [
+      | yes inside ↦ zeros (j - i) inside
+      | no beyond ↦ List·getD-eq-default (drop i l) 0 (omega arith)
+    ]
+
+take-same : (m : ℕ) (l : List ℕ) → AllZero (drop m l) → (j : ℕ) → getD l j 0 ≡ getD (take m l) j 0
+take-same m l zeros j = elim (decLt j m) [
+  | yes h ↦ sym (getD-take m l j 0 h)
+  | no h ↦ zero-from m l zeros j (omega arith) ∙ sym (List·getD-eq-default (take m l) 0 (omega (arith, length-take m l)))
+]
+
+pub padded-used : (m : ℕ) (l : List ℕ) → length l ≤ openWidth → AllZero (drop m l) → padded l ≡ padded (take m l)
+padded-used m l few zeros =
+    padded-unique (take m l) (padded l) (omega (arith, length-take m l)) (padded-length l few) (λ j. padded-at l j ∙ take-same m l zeros j)
+
+-- stages as they stand on a sheet
+
+pub stages-length : (m : ℕ) (l : List ℕ) → length (stagesIn m l) ≡ m
+unfolding stagesIn
+stages-length zero l = refl
+stages-length (suc m) l = omega (arith, length-append (stagesIn m l) (stageAt l m ∷ []), stages-length m l)
+
+flat-snoc : (ss : List Stage) (s : Stage) → flat (ss ++ (s ∷ [])) ≡ flat ss ++ (s .direction ∷ s .control ∷ [])
+flat-snoc [] s = refl
+flat-snoc (t ∷ ss) s = ap (λ (l : List ℕ). t .direction ∷ t .control ∷ l) (flat-snoc ss s)
+
+pub flat-part : (m : ℕ) (l : List ℕ) → 2 * m ≤ length l → flat (stagesIn m l) ≡ take (2 * m) l
+unfolding stagesIn
+flat-part zero l h = refl
+flat-part (suc m) l h =
+    flat-snoc (stagesIn m l) (stageAt l m)
+    ∙ ap (λ (x : List ℕ). x ++ (getD l (2 * m) 0 ∷ getD l (2 * m + 1) 0 ∷ [])) (flat-part m l (omega arith))
+    ∙ sym (append-assoc (take (2 * m) l) (getD l (2 * m) 0 ∷ []) (getD l (2 * m + 1) 0 ∷ []))
+    ∙ ap (λ (x : List ℕ). x ++ (getD l (2 * m + 1) 0 ∷ [])) (sym (take-suc l (2 * m) 0 (omega arith)))
+    ∙ ap₂ (λ (i j : ℕ). take i l ++ (getD l j 0 ∷ [])) {x = suc (2 * m)} {y = suc (2 * m)} refl (add-one (2 * m))
+    ∙ sym (take-suc l (suc (2 * m)) 0 (omega arith))
+    ∙ ap (λ (x : ℕ). take x l) {x = suc (suc (2 * m))} {y = 2 * suc m} (omega arith)
+
+flat-length : (ss : List Stage) → length (flat ss) ≡ 2 * length ss
+flat-length [] = refl
+flat-length (s ∷ ss) = omega (arith, flat-length ss)
+
+stages-cons : (m d c : ℕ) (l : List ℕ) → stagesIn (suc m) (d ∷ c ∷ l) ≡ record { direction = d; control = c } ∷ stagesIn m l
+unfolding stagesIn
+stages-cons zero d c l = refl
+stages-cons (suc m) d c l =
+    let first : 2 * suc m ≡ suc (suc (2 * m)) = omega arith in
+    let second : 2 * suc m + 1 ≡ suc (suc (2 * m + 1)) = omega arith in
+    ap₂ (λ (ss : List Stage) (s : Stage). ss ++ (s ∷ [])) (stages-cons m d c l)
+    (ap₂ (λ (x y : ℕ). record { direction = getD (d ∷ c ∷ l) x 0; control = getD (d ∷ c ∷ l) y 0 }) first second)
+
+flat-stages : (ss : List Stage) → stagesIn (length ss) (flat ss) ≡ ss
+unfolding stagesIn
+flat-stages [] = refl
+flat-stages (s ∷ ss) = stages-cons (length ss) (s .direction) (s .control) (flat ss) ∙ ap (λ (ts : List Stage). s ∷ ts) (flat-stages ss)
+
+pub after-none : (l : List ℕ) (c b : ℕ) → afterStages (stagesIn 0 l) c b ≡ b
+unfolding afterStages stagesIn
+after-none l c b = refl
+
+pub after-more : (m : ℕ) (l : List ℕ) (c b : ℕ) → afterStages (stagesIn (m + 1) l) c b ≡ switched (stageAt l m) c (afterStages (stagesIn m l) c b)
+unfolding afterStages stagesIn
+after-more m l c b = rw (add-one m) (after-append (stagesIn m l) (stageAt l m ∷ []) c b)
+
+chosen-zero : (b : ℕ) → chosen b 0 ≡ 0
+chosen-zero zero = refl
+chosen-zero (suc b) = refl
+
+idle : (m : ℕ) (l : List ℕ) (c b : ℕ) → getD l (2 * m) 0 ≡ 0 → switched (stageAt l m) c b ≡ b
+idle m l c b none =
+    ap (λ (d : ℕ). bitXor b (chosen (dot (stageAt l m .control) c) d)) none
+    ∙ ap (bitXor b) (chosen-zero (dot (stageAt l m .control) c))
+    ∙ xor-zero-r b
+
+idle-stages : (m more : ℕ) (l : List ℕ) → length l ≤ 2 * m → (c b : ℕ) → afterStages (stagesIn (m + more) l) c b ≡ afterStages (stagesIn m l) c b
+idle-stages m zero l end c b = ap (λ (s : ℕ). afterStages (stagesIn s l) c b) (omega arith)
+idle-stages m (suc more) l end c b =
+    ap (λ (s : ℕ). afterStages (stagesIn s l) c b) {x = m + suc more} {y = (m + more) + 1} (omega arith)
+    ∙ after-more (m + more) l c b
+    ∙ idle (m + more) l c (afterStages (stagesIn (m + more) l) c b) (List·getD-eq-default l 0 (omega arith))
+    ∙ idle-stages m more l end c b
+
+same-stages : (m : ℕ) (l r : List ℕ) → ((j : ℕ) → getD l j 0 ≡ getD r j 0) → stagesIn m l ≡ stagesIn m r
+unfolding stagesIn
+same-stages zero l r same = refl
+same-stages (suc m) l r same =
+    ap₂ (λ (ss : List Stage) (s : Stage). ss ++ (s ∷ [])) (same-stages m l r same)
+    (ap₂ (λ (d c : ℕ). record { direction = d; control = c }) (same (2 * m)) (same (2 * m + 1)))
+
+-- what an opened side shows
+
+lt-two-to : (x : ℕ) → x < 2 ^ x
+lt-two-to zero = omega arith
+lt-two-to (suc x) = omega (arith, pow-suc 2 x, lt-two-to x)
+
+pub same-image : (cs ds : List ℕ) → ((j : ℕ) → getD cs j 0 ≡ getD ds j 0) → (x : ℕ) → image cs x ≡ image ds x
+same-image cs ds same x =
+    linear-agree x (image cs) (image ds) (image-xor cs) (image-xor ds) (λ j h. image-unit cs j ∙ same j ∙ sym (image-unit ds j)) x (lt-two-to x)
+
+module _ {n k : ℕ} {o : OpenSide} {S : Side} (h : Shows n k o S) where
+  pub shown-k : o .k ≡ k
+  shown-k = ap (λ (q : OpenSide). q .k) (h .is)
+
+  pub shown-addresses : (j : ℕ) → getD (o .addresses) j 0 ≡ getD (S .addresses) j 0
+  shown-addresses j = ap (λ (q : OpenSide). getD (q .addresses) j 0) (h .is) ∙ padded-at (S .addresses) j
+
+  pub shown-wiring : (j : ℕ) → getD (o .wiring) j 0 ≡ getD (S .wiring) j 0
+  shown-wiring j = ap (λ (q : OpenSide). getD (q .wiring) j 0) (h .is) ∙ padded-at (S .wiring) j
+
+  pub shown-stages : (c b : ℕ) → afterStages (stagesIn openStages (o .stages)) c b ≡ afterStages (S .stages) c b
+  shown-stages c b =
+      let all = flat (S .stages) in
+      let m = length (S .stages) in
+      ap (λ (q : OpenSide). afterStages (stagesIn openStages (q .stages)) c b) (h .is)
+      ∙ ap (λ (ss : List Stage). afterStages ss c b) (same-stages openStages (padded all) all (padded-at all))
+      ∙ ap (λ (s : ℕ). afterStages (stagesIn s all) c b) {x = openStages} {y = m + (openStages - m)} (omega (arith, h .stages))
+      ∙ idle-stages m (openStages - m) all (omega (arith, flat-length (S .stages))) c b
+      ∙ ap (λ (ss : List Stage). afterStages ss c b) (flat-stages (S .stages))
+
+  pub whole-number : (a b c p : ℕ) → a * 2 ^ k + b ≡ cellAt k S c p → (a * 2 ^ o .k + b) % 2 ^ openWidth ≡ cellAt k S c p
+  whole-number a b c p e =
+      let small : cellAt k S c p < 2 ^ openWidth = omega (arith, cell-lt (h .used) (h .ports) c p, pow-mono (h .words)) in
+      ap (λ (x : ℕ). (a * 2 ^ x + b) % 2 ^ openWidth) shown-k ∙ ap (λ (x : ℕ). x % 2 ^ openWidth) e ∙ mod-eq-of-lt small
+
+-- no second answer
+
+pub closed-shows : Shows 0 0 closed (record { addresses = []; wiring = []; stages = [] })
+closed-shows = record {
+  is = refl;
+  ports = omega arith;
+  words = omega arith;
+  addresses = refl;
+  wiring = refl;
+  stages = omega arith;
+  used = record { addresses = λ j h. absurd (omega arith); wiring = λ j h. absurd (omega arith); stages = tt };
+}
+
+module _ {e : Edition} {n k : ℕ} {s : List ℕ} {fits : Bool} (r q : Opened) (a : Opens e n k s fits r) (b : Opens e n k s fits q) where
+  pub opens-unique : r ≡ q
+  opens-unique = go (r .answer) refl
+    where
+      said-alike : r .answer ≡ q .answer
+      said-alike = checks-unique (sheetTable e n k s) fits (r .answer) (q .answer) (a .answer) (b .answer)
+
+      alike : {x y : Answer} {o p v w : OpenSide} → x ≡ y → o ≡ p → v ≡ w → _≡_ {A = Opened} (record { answer = x; write = o; read = v }) (record { answer = y; write = p; read = w })
+      alike f g h = cc
+
+      go : (x : Answer) → r .answer ≡ x → r ≡ q
+      go Done d =
+          let f = sym said-alike ∙ d in
+          alike said-alike (a .write d .is ∙ sym (b .write f .is)) (a .read d .is ∙ sym (b .read f .is))
+      go (Refused x) d =
+          let f = sym said-alike ∙ d in
+          alike said-alike (a .refused x d .0 ∙ sym (b .refused x f .0)) (a .refused x d .1 ∙ sym (b .refused x f .1))

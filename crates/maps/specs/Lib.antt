@@ -1,0 +1,4 @@
+-- The two maps of a sheet, and what is promised of a side that was opened.
+pub mod Cells
+pub mod Opened
+pub mod Inside

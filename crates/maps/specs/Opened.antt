@@ -1,0 +1,88 @@
+-- A side of a sheet that was opened: checked once, and then asked as often as one likes.
+--   openWidth, openStages        an opened side has 16 places for columns, of either kind, and 8 for stages
+--   padded l                     the numbers of l, and zeros after them, openWidth in all
+--   flat ss                      the numbers of the stages ss, as they stand on a sheet: direction, control, direction, ..
+--   opened k S                   the side S, opened
+--   Shows n k o S                o is the side S, opened, of a sheet for n and k that keeps the layout
+--   closed                       what stands in place of a side where the sheet was refused
+--   Opens e n k s fits r         opening the sheet s: r has the lowest of 1, 2 and 5 that applies, fits as in `Checks`; where none does, r shows both sides
+--   IsAddress o c p r            r is the address of the word at tick c, port p, on whichever side o shows
+--   IsBank o c p r               r is its bank
+--   IsCell o c p r               r is its cell
+--   AreColumns o r               r is the first openWidth columns of that side's map
+--   CellsOfTick k S c l          l is the cells of tick c, by port
+--   ListsCells o c out out' r    all cells of one tick into a lent buffer, which has 2^k places or is refused: done, out' is these; refused, out as it came
+use Prim.Native.Nat.{ℕ, _-_, _^_, _<_, _≤_}
+use mathlib.Core.Path.{_≡_}
+use mathlib.Core.Bool.{Bool}
+use mathlib.Core.List.{List, [], _∷_, _++_}
+use lib.ListN.{length, getD, replicate}
+use Rattle.kinds.specs.Edition.{Edition}
+use Rattle.kinds.specs.Refusal.{said}
+use Rattle.kinds.specs.Reasons.{wrongLength}
+use Rattle.kinds.specs.Answers.{Checks, Answers}
+use Rattle.kinds.specs.declared.Answer.{Answer}
+use Rattle.kinds.specs.declared.Answer.the-variants.{Done, Refused}
+use Rattle.kinds.specs.declared.Refusal.{Refusal}
+use Rattle.bits.specs.Image.{columns}
+use Rattle.sheet.specs.Sheet.{Stage, Side, writeSide, readSide}
+use Rattle.sheet.specs.Layout.{InRange}
+use Rattle.sheet.specs.Table.{sheetTable}
+use Rattle.maps.specs.Cells.{addressAt, bankAt, cellAt, cellOf}
+use Rattle.maps.specs.declared.OpenSide.{OpenSide}
+use Rattle.maps.specs.declared.Opened.{Opened}
+
+abbrev pub openWidth : ℕ
+openWidth = 16
+
+abbrev pub openStages : ℕ
+openStages = 8
+
+abbrev pub padded : List ℕ → List ℕ
+padded l = l ++ replicate (openWidth - length l) 0
+
+abbrev pub flat : List Stage → List ℕ
+flat [] = []
+flat (s ∷ ss) = s .direction ∷ s .control ∷ flat ss
+
+abbrev pub opened : ℕ → Side → OpenSide
+opened k S = record { k = k; addresses = padded (S .addresses); wiring = padded (S .wiring); stages = padded (flat (S .stages)) }
+
+pub record Shows (n k : ℕ) (o : OpenSide) (S : Side) : Type 0 where
+  pub is : o ≡ opened k S
+  pub ports : k ≤ n
+  pub words : n ≤ openWidth
+  pub addresses : length (S .addresses) ≡ n
+  pub wiring : length (S .wiring) ≡ k
+  pub stages : length (S .stages) ≤ openStages
+  pub used : InRange n k S
+
+abbrev pub closed : OpenSide
+closed = opened 0 (record { addresses = []; wiring = []; stages = [] })
+
+pub record Opens (e : Edition) (n k : ℕ) (s : List ℕ) (fits : Bool) (r : Opened) : Type 0 where
+  pub answer : Checks (sheetTable e n k s) fits (r .answer)
+  pub write : r .answer ≡ Done → Shows n k (r .write) (writeSide e n k s)
+  pub read : r .answer ≡ Done → Shows n k (r .read) (readSide e n k s)
+  pub refused : (x : Refusal) → r .answer ≡ Refused x → (r .write ≡ closed) × (r .read ≡ closed)
+
+abbrev pub IsAddress : OpenSide → ℕ → ℕ → ℕ → Type 0
+IsAddress o c p r = (n k : ℕ) (S : Side) → Shows n k o S → r ≡ addressAt k S c p
+
+abbrev pub IsBank : OpenSide → ℕ → ℕ → ℕ → Type 0
+IsBank o c p r = (n k : ℕ) (S : Side) → Shows n k o S → r ≡ bankAt S c p
+
+abbrev pub IsCell : OpenSide → ℕ → ℕ → ℕ → Type 0
+IsCell o c p r = (n k : ℕ) (S : Side) → Shows n k o S → r ≡ cellAt k S c p
+
+abbrev pub AreColumns : OpenSide → List ℕ → Type 0
+AreColumns o r = (n k : ℕ) (S : Side) → Shows n k o S → r ≡ columns openWidth (cellOf k S)
+
+pub record CellsOfTick (k : ℕ) (S : Side) (c : ℕ) (l : List ℕ) : Type 0 where
+  pub whole : length l ≡ 2 ^ k
+  pub each : (p : ℕ) → p < 2 ^ k → getD l p 0 ≡ cellAt k S c p
+
+abbrev pub ListsCells : OpenSide → ℕ → List ℕ → List ℕ → Answer → Type 0
+ListsCells o c out out' r =
+    (n k : ℕ) (S : Side) → Shows n k o S
+    → Answers (wrongLength ((length out, 2 ^ k) ∷ []) ∷ []) (said r) (CellsOfTick k S c out') (out' ≡ out)

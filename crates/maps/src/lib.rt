@@ -1,0 +1,207 @@
+// The two maps of a sheet: which cell each word has, on the write side and on the read side.
+ghost use mathlib.Core.Path.{_≡_};
+ghost use Prim.Native.Nat.{_+_, _*_, _%_, _^_, _≤_};
+ghost use lib.ListN.{length};
+ghost use Rattle.kinds.specs.Edition.{edition1, sidePlaces};
+ghost use Rattle.kinds.specs.Frame.{wordAt};
+ghost use Rattle.sheet.specs.Sheet.{stagesIn};
+ghost use Rattle.maps.specs.Cells.{afterStages};
+ghost use Rattle.maps.specs.Opened.{openWidth, openStages, padded, Opens, IsAddress, IsBank, IsCell, AreColumns, ListsCells};
+ghost use Rattle.maps.specs.Inside.{OpensSide, IsColumn, Doubled};
+use kinds::Addr;
+use kinds::Answer;
+use kinds::Bank;
+use kinds::Port;
+use kinds::Refusal;
+use kinds::Tick;
+
+// A side of a sheet that keeps the layout, with zeros after what it uses, so that each loop below has a fixed end.
+pub struct OpenSide {
+    k: u32,
+    addresses: [u16; 16],
+    wiring: [u16; 16],
+    stages: [u16; 16],
+}
+
+pub struct Opened {
+    pub answer: Answer,
+    pub write: OpenSide,
+    pub read: OpenSide,
+}
+
+// 1, 2 and 5, and both sides where none applies. `fits` says whether every other length that the tool was lent is right.
+pub fn open(n: u32, k: u32, sheet: &[u16], fits: bool) -> Opened
+    ensures { λ r. ⌜ Opens edition1 n k (now (sheet .entry)) fits r ⌝ }
+{
+    let answer = sheet::check(n, k, sheet, fits);
+    let done = kinds::is_done(answer);
+    if !done {
+        let closed = OpenSide {
+            k: 0,
+            addresses: [0; 16],
+            wiring: [0; 16],
+            stages: [0; 16],
+        };
+        return Opened {
+            answer,
+            write: closed,
+            read: closed,
+        };
+    }
+    let write = open_side(k, &sheet[0..sheet::SIDE]);
+    let read = open_side(k, &sheet[sheet::SIDE..]);
+    Opened {
+        answer,
+        write,
+        read,
+    }
+}
+
+fn open_side(k: u32, side: &[u16]) -> OpenSide
+    requires { ⌜ length (now side) ≡ sidePlaces edition1 ⌝ }
+    ensures { λ r. ⌜ OpensSide k (now (side .entry)) r ⌝ }
+{
+    let addresses = sixteen(&side[0..sheet::WIRING]);
+    let wiring = sixteen(&side[sheet::WIRING..sheet::COUNT]);
+    let stages = sixteen(&side[sheet::STAGES..]);
+    OpenSide {
+        k,
+        addresses,
+        wiring,
+        stages,
+    }
+}
+
+// The numbers of a part, and zeros after them.
+fn sixteen(part: &[u16]) -> [u16; 16]
+    requires { ⌜ length (now part) ≤ openWidth ⌝ }
+    ensures { λ r. ⌜ r ≡ padded (now (part .entry)) ⌝ }
+{
+    let mut numbers = [0; 16];
+    let mut j = 0;
+    while j < part.len() {
+        numbers[j] = part[j];
+        j += 1;
+    }
+    numbers
+}
+
+impl OpenSide {
+    // "The address columns applied to c*2^k + p" (01).
+    pub fn address(self, tick: Tick, port: Port) -> Addr
+        ensures { λ r. ⌜ IsAddress self (tick .0) (port .0) (r .0) ⌝ }
+    {
+        let word = word_number(tick, port, self.k);
+        let address = bits::image(&self.addresses, word as u32) as u32;
+        Addr(address)
+    }
+
+    // It starts as the wiring applied to the port; then come the stages.
+    pub fn bank(self, tick: Tick, port: Port) -> Bank
+        ensures { λ r. ⌜ IsBank self (tick .0) (port .0) (r .0) ⌝ }
+    {
+        let wired = bits::image(&self.wiring, port.0) as u32;
+        after_stages(&self.stages, tick, Bank(wired))
+    }
+
+    pub fn cell(self, tick: Tick, port: Port) -> u16
+        ensures { λ r. ⌜ IsCell self (tick .0) (port .0) r ⌝ }
+    {
+        let address = self.address(tick, port);
+        let bank = self.bank(tick, port);
+        cell_number(address, bank, self.k)
+    }
+
+    // The first 16 columns of the side's map.
+    pub fn columns(self) -> [u16; 16]
+        ensures { λ r. ⌜ AreColumns self r ⌝ }
+    {
+        let mut columns = [0; 16];
+        let mut j = 0;
+        while j < 16 {
+            columns[j] = self.column(j);
+            j += 1;
+        }
+        columns
+    }
+
+    // Column j is the cell of word 2^j, which has a port bit and tick 0, or a tick bit and port 0.
+    fn column(self, j: usize) -> u16
+        ensures { λ r. ⌜ IsColumn self j r ⌝ }
+    {
+        let k = self.k;
+        let at = j % 16;
+        let bit = at as u32;
+        let address = self.addresses[at] as u32;
+        if bit < k {
+            let wired = self.wiring[at] as u32;
+            return cell_number(Addr(address), Bank(wired), k);
+        }
+        let tick = bits::two_to(bit - k);
+        let bank = after_stages(&self.stages, Tick(tick), Bank(0));
+        cell_number(Addr(address), bank, k)
+    }
+
+    // The cells of a tick, by port. 2 unless there is a place for each port.
+    pub fn cells(self, tick: Tick, out: &mut [u16]) -> Answer
+        ensures { λ r. ⌜ ListsCells self (tick .0) (now (out .entry)) (now (out .exit)) r ⌝ }
+    {
+        if !bits::is_two_to(out.len(), self.k) {
+            return Answer::Refused(Refusal::Length);
+        }
+        out[0] = self.cell(tick, Port(0));
+        let mut filled = 1;
+        let mut j = 0;
+        while filled < out.len() {
+            let column = self.column(j);
+            double(out, filled, column);
+            filled = 2 * filled;
+            j += 1;
+        }
+        Answer::Done
+    }
+}
+
+// Each stage xors its direction into the bank if its control AND the tick has an odd number of ones.
+fn after_stages(stages: &[u16], tick: Tick, bank: Bank) -> Bank
+    requires { ⌜ length (now stages) ≡ openWidth ⌝ }
+    ensures { λ r. ⌜ r .0 ≡ afterStages (stagesIn openStages (now (stages .entry))) (tick .0) (bank .0) ⌝ }
+{
+    let mut b = bank.0;
+    let mut s = 0;
+    while s < 8 {
+        let direction = stages[2 * s] as u32;
+        let control = stages[2 * s + 1] as u32;
+        if bits::parity(control & tick.0) == 1 {
+            b = b ^ direction;
+        }
+        s += 1;
+    }
+    Bank(b)
+}
+
+// "Word number i enters at tick c = i / 2^k, port p = i mod 2^k" (01); its lower 16 bits, which columns look at.
+fn word_number(tick: Tick, port: Port, k: u32) -> u16
+    ensures { λ r. ⌜ r ≡ wordAt k (tick .0) (port .0) % 2 ^ openWidth ⌝ }
+{
+    bits::joined(tick.0, port.0, k)
+}
+
+// "The cell number is address*2^k + bank" (01).
+fn cell_number(address: Addr, bank: Bank, k: u32) -> u16
+    ensures { λ r. ⌜ r ≡ (address .0 * 2 ^ k + bank .0) % 2 ^ openWidth ⌝ }
+{
+    bits::joined(address.0, bank.0, k)
+}
+
+// The cells of the first ports, once more with the next port bit.
+fn double(cells: &mut [u16], filled: usize, column: u16)
+    requires { ⌜ 2 * filled ≤ length (now cells) ⌝ }
+    ensures { λ r. ⌜ Doubled filled column (now (cells .entry)) (now (cells .exit)) ⌝ }
+{
+    let mut p = 0;
+    while p < filled {
+        cells[filled + p] = cells[p] ^ column;
+        p += 1;
+    }
+}

@@ -1,0 +1,65 @@
+-- The table of 1, 2 and 5, and the price.
+--   sheet-ascending     the table's numbers go up, so the first that applies is the lowest
+--   sheet-sound         none applies exactly when the sizes are right, every lent length is, and the sheet keeps the layout
+--   check-sound         so a sheet whose check was done has the right sizes and length, and keeps the layout
+--   prices-unique       the price tool has one answer
+use Prim.Native.Nat.{ℕ}
+use mathlib.Core.Path.{_≡_, refl, sym, ap, _∙_}
+use mathlib.Core.Bool.{Bool}
+use mathlib.Core.List.{List, [], _∷_}
+use mathlib.Core.Logic.{_↔_}
+use mathlib.Core.Option.{none}
+use native.Mathlib.Omega.{arith}
+use lib.ListN.{length, getD}
+use Rattle.kinds.specs.Edition.{Edition, Sized, sized?, sheetPlaces}
+use Rattle.kinds.specs.Answers.{Checks}
+use Rattle.kinds.specs.Refusal.{said}
+use Rattle.kinds.specs.declared.Answer.{Answer}
+use Rattle.kinds.specs.declared.Answer.the-variants.{Done}
+use Rattle.kinds.specs.Lowest.{lowest, Ascending}
+use Rattle.kinds.specs.Reasons.{RightLengths, rightLengths?}
+use Rattle.kinds.proofs.TruthLaws.{stable}
+use Rattle.kinds.proofs.AnswerLaws.{some-lengths, answers-same}
+use Rattle.kinds.proofs.LowestLaws.{none-some, lowest-none}
+use Rattle.sheet.specs.Layout.{WellFormed, wellFormed?}
+use Rattle.sheet.specs.Table.{sheetTable}
+use Rattle.sheet.specs.Price.{Prices}
+use Rattle.sheet.specs.declared.Sums.{Sums}
+use Rattle.sheet.specs.declared.Priced.{Priced}
+use Rattle.sheet.specs.declared.Priced.the-variants.{Costs, Refused}
+
+module _ (e : Edition) (n k : ℕ) (s : List ℕ) (others : List (ℕ × ℕ)) where
+  pub sheet-ascending : Ascending (sheetTable e n k s others)
+  sheet-ascending = ((omega arith, (omega arith, tt)), ((omega arith, tt), (tt, tt)))
+
+  pub sheet-sound : lowest (sheetTable e n k s others) ≡ none ↔ (Sized e n k × RightLengths ((length s, sheetPlaces e) ∷ others) × WellFormed e n k s)
+  sheet-sound = (
+    λ none-given.
+        let none-applies = lowest-none (sheetTable e n k s others) .0 none-given in (
+          stable (sized? e n k) (none-applies .0),
+          stable (rightLengths? ((length s, sheetPlaces e) ∷ others)) (none-applies .1 .0),
+          stable (wellFormed? e n k s) (none-applies .1 .1 .0),
+        ),
+    λ (sized, right, formed).
+        lowest-none (sheetTable e n k s others) .1 (λ out. out sized, (λ wrong. wrong right, (λ broken. broken formed, tt))),
+  )
+
+pub check-sound : {e : Edition} {n k : ℕ} {s : List ℕ} {r : Answer} (fits : Bool) → Checks (sheetTable e n k s) fits r → r ≡ Done
+    → Sized e n k × (length s ≡ sheetPlaces e) × WellFormed e n k s
+check-sound {e} {n} {k} {s} fits c d =
+    let (others, says) = some-lengths fits in
+    let (sized, right, formed) = sheet-sound e n k s others .0 (sym (c others says) ∙ ap said d) in
+    (sized, right .0, formed)
+
+carry-same : (p q : Sums) → p .switches ∷ p .multiplexers ∷ p .gates ∷ [] ≡ q .switches ∷ q .multiplexers ∷ q .gates ∷ [] → p ≡ q
+carry-same p q e = made (ap (λ (l : List ℕ). getD l 0 0) e) (ap (λ (l : List ℕ). getD l 1 0) e) (ap (λ (l : List ℕ). getD l 2 0) e)
+  where
+    made : {a b c x y z : ℕ} → a ≡ x → b ≡ y → c ≡ z
+        → _≡_ {A = Sums} (record { switches = a; multiplexers = b; gates = c }) (record { switches = x; multiplexers = y; gates = z })
+    made f g h = cc
+
+pub prices-unique : {e : Edition} {n k : ℕ} {s : List ℕ} (a b : Priced) → Prices e n k s a → Prices e n k s b → a ≡ b
+prices-unique (Costs p) (Costs q) x y = ap Costs (carry-same p q (x .done refl ∙ sym (y .done refl)))
+prices-unique (Costs p) (Refused v) x y = none-some (answers-same x y)
+prices-unique (Refused u) (Costs q) x y = none-some (sym (answers-same x y))
+prices-unique (Refused u) (Refused v) x y = let e = answers-same x y in cc

@@ -2,5 +2,4 @@ pub mod XorLaws
 pub mod ParityLaws
 pub mod ImageLaws
 pub mod NextLaws
-pub mod FitLaws
 pub mod Cases

@@ -1,4 +1,5 @@
 -- Odd or even, and single bits.
+--   ones-least          a number that is not 0 has a one
 --   parity-lt, parity-zero, parity-step    parity is 0 or 1, is 0 of 0, and goes bit by bit
 --   parity-xor          the parity of an exclusive or
 --   dot-lt, dot-comm, dot-zero             dot is 0 or 1, the same either way round, and 0 with 0
@@ -10,9 +11,10 @@
 --   unit-half, unit-low    the half and the lowest bit of 2^(j+1)
 --   dot-unit            dot with 2^j is bit j
 --   by-bits             numbers of k bits with equal bits are equal
-use Prim.Native.Nat.{ℕ, zero, suc, _+_, _/_, _%_, _^_, _<_, min}
+use Prim.Native.Nat.{ℕ, zero, suc, _+_, _/_, _%_, _^_, _<_, _≤_, min}
 use mathlib.Core.Path.{_≡_, refl, sym, ap, ap₂, _∙_}
 use mathlib.Core.Logic.{_≢_}
+use native.Mathlib.Decide.{decLe}
 use native.Mathlib.Omega.{arith}
 use native.Mathlib.Nat.{add-mod, pow-suc}
 use lib.Arith.{bin-ind}
@@ -21,6 +23,12 @@ use lib.Count.{ones, ones-step}
 use lib.Pow.{shr-shr}
 use Rattle.bits.specs.Parity.{bit, parity, dot}
 use Rattle.bits.proofs.XorLaws.{by-halves, odd-add, xor-half, xor-low, and-half, and-low, and-xor}
+
+pub ones-least : (x : ℕ) → 1 ≤ x → 1 ≤ ones x
+ones-least =
+    bin-ind (λ (x : ℕ). 1 ≤ x → 1 ≤ ones x)
+    (λ h. absurd (omega arith))
+    (λ x ih h. elim (decLe 1 (x / 2)) [ yes more ↦ omega (arith, ones-step x, ih more) | no least ↦ omega (arith, ones-step x) ])
 
 pub parity-lt : (x : ℕ) → parity x < 2
 unfolding parity

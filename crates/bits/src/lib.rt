@@ -36,17 +36,20 @@ pub fn image(columns: &[u16], x: u32) -> u16
     sum
 }
 
-pub fn all_below(columns: &[u16], bound: u32) -> bool
-    ensures { λ r. ⌜ Says r (AllBelow bound (now (columns .entry))) ⌝ }
+// Whether each number has at most m bits. Where none has more, neither have all of them together.
+pub fn within_bits(numbers: &[u16], m: u32) -> bool
+    ensures { λ r. ⌜ Says r (AllBelow (2 ^ m) (now (numbers .entry))) ⌝ }
 {
-    let mut j = 0;
-    while j < columns.len() {
-        if bound <= columns[j] as u32 {
-            return false;
-        }
-        j += 1;
+    let mut all = 0;
+    let mut i = 0;
+    while i < numbers.len() {
+        all = all | numbers[i];
+        i += 1;
     }
-    true
+    if 16 <= m {
+        return true;
+    }
+    (all as u32) < two_to(m)
 }
 
 pub fn two_to(k: u32) -> u32

@@ -12,6 +12,7 @@
 --   shown-addresses, shown-wiring    its columns are those of the side
 --   shown-stages      its stages leave the same bank
 --   whole-number      a cell loses no bit as a number of 16 bits
+--   is-bank, is-cell  what the code computes of a bank, and of a cell, is that
 --   closed-shows      what stands for a side of a refused sheet shows one too, so that nothing is asked of a side that shows none
 --   opens-unique      opening a sheet has one answer
 use Prim.Native.Nat.{ℕ, zero, suc, _+_, _-_, _*_, _%_, _^_, _≤_, _<_}
@@ -37,7 +38,7 @@ use Rattle.sheet.specs.Sheet.{Stage, Side, stageAt, stagesIn}
 use Rattle.sheet.specs.Layout.{AllZero}
 use Rattle.sheet.specs.Table.{sheetTable}
 use Rattle.maps.specs.Cells.{switched, afterStages, cellAt}
-use Rattle.maps.specs.Opened.{openWidth, openStages, padded, flat, closed, Shows, Opens}
+use Rattle.maps.specs.Opened.{openWidth, openStages, padded, flat, closed, Shows, Opens, IsAddress, IsBank, IsCell}
 use Rattle.maps.specs.declared.OpenSide.{OpenSide}
 use Rattle.maps.specs.declared.Opened.{Opened}
 use Rattle.maps.proofs.CellLaws.{after-append, cell-lt}
@@ -190,6 +191,16 @@ module _ {n k : ℕ} {o : OpenSide} {S : Side} (h : Shows n k o S) where
   whole-number a b c p e =
       let small : cellAt k S c p < 2 ^ openWidth = omega (arith, cell-lt (h .used) (h .ports) c p, pow-mono (h .words)) in
       ap (λ (x : ℕ). (a * 2 ^ x + b) % 2 ^ openWidth) shown-k ∙ ap (λ (x : ℕ). x % 2 ^ openWidth) e ∙ mod-eq-of-lt small
+
+pub is-bank : (o : OpenSide) (c p : ℕ) {wired r : ℕ} → wired ≡ image (o .wiring) p → r ≡ afterStages (stagesIn openStages (o .stages)) c wired → IsBank o c p r
+is-bank o c p wired-is e n k S h =
+    e
+    ∙ ap (afterStages (stagesIn openStages (o .stages)) c) (wired-is ∙ same-image (o .wiring) (S .wiring) (shown-wiring h) p)
+    ∙ shown-stages h c (image (S .wiring) p)
+
+pub is-cell : {o : OpenSide} {a b r : ℕ} (c p : ℕ) → IsAddress o c p a → IsBank o c p b → r ≡ (a * 2 ^ o .k + b) % 2 ^ openWidth → IsCell o c p r
+is-cell {a = a} {b} c p address bank e n k S h =
+    e ∙ whole-number h a b c p (ap₂ (λ (x y : ℕ). x * 2 ^ k + y) (address n k S h) (bank n k S h))
 
 -- no second answer
 

@@ -142,14 +142,16 @@ impl OpenSide {
         cell_number(Addr(address), bank, k)
     }
 
-    // The cells of a tick, by port. 2 unless there is a place for each port.
+    // The cells of a tick, by port; the wiring sends port 0 to bank 0. 2 unless there is a place for each port.
     pub fn cells(self, tick: Tick, out: &mut [u16]) -> Answer
         ensures { λ r. ⌜ ListsCells self (tick .0) (now (out .entry)) (now (out .exit)) r ⌝ }
     {
         if !bits::is_two_to(out.len(), self.k) {
             return Answer::Refused(Refusal::Length);
         }
-        out[0] = self.cell(tick, Port(0));
+        let address = self.address(tick, Port(0));
+        let bank = after_stages(&self.stages, tick, Bank(0));
+        out[0] = cell_number(address, bank, self.k);
         let mut filled = 1;
         let mut j = 0;
         while filled < out.len() {

@@ -60,8 +60,7 @@ fn check_columns(n: u32, columns: &[u16], fits: bool) -> Checked
     if columns.len() != n as usize {
         return refused(Refusal::Length);
     }
-    let bound = bits::two_to(n);
-    let small = bits::all_below(columns, bound);
+    let small = bits::within_bits(columns, n);
     let scanned = scan_columns(columns);
     let independent = scanned.independent;
     if !small {

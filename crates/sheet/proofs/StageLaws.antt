@@ -84,6 +84,6 @@ controlled {n} {k} {m} {l} {x} count stages places formed =
     let few : m ≤ 8 = omega (arith, formed .count) in
     record {
       room = omega arith;
-      places = omega arith;
+      few = few;
       controls = rw count (rw stages (each-stage (λ s. 1 ≤ s .control) _ _ .1 (λ s h. formed-stage formed s h .control .least)));
     }

@@ -50,31 +50,32 @@ fn side_formed(n: u32, k: u32, side: &[u16]) -> bool
     requires { ⌜ Whole edition1 n k (now side) ⌝ }
     ensures { λ r. ⌜ Says r (FormedSide edition1 n k (now (side .entry))) ⌝ }
 {
-    let ticks = bits::two_to(n - k);
-    let ports = bits::two_to(k);
+    let t = n - k;
     let addresses = n as usize;
     let wiring = WIRING + k as usize;
     let count = side[COUNT] as usize;
     if MOST_STAGES < count {
         return false;
     }
-    if !bits::all_below(&side[0..addresses], ticks) {
+    if !bits::within_bits(&side[0..addresses], t) {
         return false;
     }
-    if !bits::all_below(&side[addresses..WIRING], 1) {
+    if !bits::within_bits(&side[addresses..WIRING], 0) {
         return false;
     }
-    if !bits::all_below(&side[WIRING..wiring], ports) {
+    if !bits::within_bits(&side[WIRING..wiring], k) {
         return false;
     }
-    if !bits::all_below(&side[wiring..COUNT], 1) {
+    if !bits::within_bits(&side[wiring..COUNT], 0) {
         return false;
     }
+    let ports = bits::two_to(k);
+    let ticks = bits::two_to(t);
     if !stages_formed(&side[STAGES..], count, ports, ticks) {
         return false;
     }
     let rest = STAGES + 2 * count;
-    bits::all_below(&side[rest..], 1)
+    bits::within_bits(&side[rest..], 0)
 }
 
 // A direction is below ports, a control below ticks, and neither is 0.

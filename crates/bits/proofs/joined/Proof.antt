@@ -2,6 +2,8 @@
 use Prim.Native.Nat.{ℕ, _+_, _-_, _*_, _%_, _^_, _≤_}
 use mathlib.Core.Path.{_≡_, sym, ap, _∙_}
 use borrow.Author.Needs.{needs}
+use mir.Syntax.{w32}
+use mir.Val.{Fits}
 use native.Mathlib.Decide.{decLt}
 use native.Mathlib.Nat.{mul-assoc, mul-le-mul-right, mul-le-mul-left, mul-add-mod-self-right, le-trans}
 use native.Mathlib.Omega.{arith}
@@ -34,14 +36,14 @@ two-to-requires c κs = search needs
 cast-whole : tie.Need-cast-whole
 cast-whole c = search needs
 
-largest : (c : tie.After-two-to) → c .before .args .high * c .two-to .result ≤ 4294967295 * 4294967295
-largest c = product 4294967295 (c .before .args .high) (c .two-to .result) (omega (arith, c .before .fits .high)) (omega (arith, c .two-to .ok))
+largest : (c : tie.After-two-to) (x : ℕ) → Fits w32 x → x * c .two-to .result ≤ 4294967295 * 4294967295
+largest c x f = product 4294967295 x (c .two-to .result) (omega arith) (omega (arith, c .two-to .ok))
 
 mul-whole : tie.Need-mul-whole
-mul-whole c = omega (arith, largest c)
+mul-whole c = omega (arith, largest c _ (c .before .fits .high), largest c _ (c .before .fits .low))
 
 add-whole : tie.Need-add-whole
-add-whole c = omega (arith, largest c, c .before .fits .low)
+add-whole c = omega (arith, largest c _ (c .before .fits .high), largest c _ (c .before .fits .low), c .before .fits)
 
 cast-result : tie.Need-cast-result
 cast-result c = search needs

@@ -1,11 +1,11 @@
 -- `maps::open` meets its contract. Past the check both sides keep the layout, so that each can be opened.
-use Prim.Native.Nat.{ℕ, _-_}
-use mathlib.Core.Path.{_≡_, refl, ap, subst, _∙_}
+use Prim.Native.Nat.{ℕ}
+use mathlib.Core.Path.{_≡_, refl, subst}
 use mathlib.Core.List.{List}
 use native.Mathlib.Omega.{arith}
 use borrow.Author.Needs.{needs}
 use borrow.Author.Tests.{not-true, not-false}
-use lib.ListN.{length, length-drop}
+use lib.ListN.{length, length-take, length-drop}
 use lib.Seq.{length-take-le}
 use Rattle.kinds.specs.Edition.{edition1, Sized, sheetPlaces}
 use Rattle.kinds.specs.declared.Answer.the-variants.{Done}
@@ -67,13 +67,10 @@ part-open-side-start-2 : tie.Need-part-open-side-start-2
 part-open-side-start-2 c = omega (arith, sound (c .before .before) .1)
 
 part-open-side-end-2 : tie.Need-part-open-side-end-2
-part-open-side-end-2 c = search needs
+part-open-side-end-2 c = omega (arith, sound (c .before .before) .1)
 
 open-side-requires-2 : tie.Need-open-side-requires-2
-open-side-requires-2 c κs =
-    let checked = c .before .before .before in
-    let half : length (s checked) - 32 ≡ 32 = omega (arith, sound checked .1) in
-    ap length (last-part (s checked) 0 32) ∙ length-drop 32 (s checked) ∙ half
+open-side-requires-2 c κs = simp (length-take, length-drop) (omega (arith, sound (c .before .before .before) .1))
 
 returns-2 : tie.Need-returns-2
 returns-2 c =

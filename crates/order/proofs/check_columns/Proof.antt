@@ -1,5 +1,5 @@
 -- `order::check_columns` meets its contract. It goes down the table from 2 to 4; past each test the reason does not apply.
-use Prim.Native.Nat.{ℕ, _^_}
+use Prim.Native.Nat.{ℕ}
 use mathlib.Core.Path.{_≡_, sym, ap, _∙_}
 use mathlib.Core.Bool.{Bool, true, false}
 use mathlib.Core.List.{List, [], _∷_}
@@ -18,7 +18,6 @@ use Rattle.kinds.specs.declared.Refusal.the-variants.{Length}
 use Rattle.kinds.proofs.TruthLaws.{denied}
 use Rattle.kinds.proofs.AnswerLaws.{not-both}
 use Rattle.kinds.proofs.LowestLaws.{lowest-nil, lowest-take, lowest-skip}
-use Rattle.bits.specs.Image.{AllBelow}
 use Rattle.order.specs.Table.{tooLarge, dependent, columnTable}
 use Rattle.order.specs.Inside.{ChecksColumns}
 use Rattle.order.specs.declared.Checked.{Checked}
@@ -58,14 +57,11 @@ refused-requires-2 c κs = search needs
 returns-2 : tie.Need-returns-2
 returns-2 c = refuses (c .refused2 .ensures) (own-length (c .before .if2 .taken))
 
-two-to-requires : tie.Need-two-to-requires
-two-to-requires c κs = search needs
-
-all-below-requires : tie.Need-all-below-requires
-all-below-requires c κs = search needs
+within-bits-requires : tie.Need-within-bits-requires
+within-bits-requires c κs = search needs
 
 scan-columns-requires : tie.Need-scan-columns-requires
-scan-columns-requires c κs = omega (arith, c .before .before .if2 .left, c .before .before .before .before .before .pre)
+scan-columns-requires c κs = omega (arith, c .before .if2 .left, c .before .before .before .before .pre)
 
 refused-requires-3 : tie.Need-refused-requires-3
 refused-requires-3 c κs = search needs
@@ -76,27 +72,21 @@ refused-requires-4 c κs = search needs
 -- the lengths are right, and the columns have been scanned
 module _ (c : tie.After-scan-columns) where
   abbrev start : tie.Start
-  start = c .before .before .before .before .before .before
+  start = c .before .before .before .before .before
 
   abbrev C : List ℕ
   C = start .args .columns .now
 
   past-lengths : {o : Option Refusal} → lowest (tooLarge (start .args .n) C ∷ dependent C ∷ []) ≡ o → Gives (start .args .n) C (start .args .fits) o
-  past-lengths = past-2 (c .before .before .before .if2 .left) (not-false _ (c .before .before .before .before .if1 .left))
+  past-lengths = past-2 (c .before .before .if2 .left) (not-false _ (c .before .before .before .if1 .left))
 
-  bound : c .before .before .two-to .result ≡ 2 ^ start .args .n
-  bound = c .before .before .two-to .ensures .fits (omega (arith, start .pre))
-
-  says : Says (c .before .all-below .result) (AllBelow (2 ^ start .args .n) C)
-  says = rw bound at (c .before .all-below .ensures)
-
-  past-3 : {o : Option Refusal} → c .before .all-below .result ≡ true → lowest (dependent C ∷ []) ≡ o → Gives (start .args .n) C (start .args .fits) o
-  past-3 small e = past-lengths (lowest-skip _ _ (λ (j, l, large). omega (arith, says .0 small j l, large)) ∙ e)
+  past-3 : {o : Option Refusal} → c .before .within-bits .result ≡ true → lowest (dependent C ∷ []) ≡ o → Gives (start .args .n) C (start .args .fits) o
+  past-3 small e = past-lengths (lowest-skip _ _ (λ (j, l, large). omega (arith, c .before .within-bits .ensures .0 small j l, large)) ∙ e)
 
 returns-3 : tie.Need-returns-3
 returns-3 c =
     let scanned = c .before .before in
-    refuses (c .refused3 .ensures) (past-lengths scanned (lowest-take _ _ (too-large _ (C scanned) (denied (says scanned) (not-true _ (c .before .if3 .taken))))))
+    refuses (c .refused3 .ensures) (past-lengths scanned (lowest-take _ _ (too-large _ (C scanned) (denied (scanned .before .within-bits .ensures) (not-true _ (c .before .if3 .taken))))))
 
 returns-4 : tie.Need-returns-4
 returns-4 c =
@@ -123,8 +113,7 @@ check-columns-spec =
     returns
     refused-requires-2
     returns-2
-    two-to-requires
-    all-below-requires
+    within-bits-requires
     scan-columns-requires
     refused-requires-3
     returns-3

@@ -1,12 +1,12 @@
 -- `sheet::check` meets its contract. It goes down the table of 1, 2 and 5; past each test the reason does not apply.
-use Prim.Native.Nat.{ℕ, _-_}
-use mathlib.Core.Path.{_≡_, sym, ap, subst, _∙_}
+use Prim.Native.Nat.{ℕ}
+use mathlib.Core.Path.{_≡_, sym, subst, _∙_}
 use mathlib.Core.Bool.{true}
 use mathlib.Core.List.{List, _∷_}
 use native.Mathlib.Omega.{arith}
 use borrow.Author.Needs.{needs}
 use borrow.Author.Tests.{not-true, not-false}
-use lib.ListN.{length, length-drop}
+use lib.ListN.{length, length-take, length-drop}
 use lib.Seq.{length-take-le}
 use Rattle.kinds.specs.Edition.{edition1, Sized, sheetPlaces}
 use Rattle.kinds.specs.Reasons.{RightLengths}
@@ -115,9 +115,7 @@ part-side-formed-end-2 c = search needs
 side-formed-requires-2 : tie.Need-side-formed-requires-2
 side-formed-requires-2 c κs =
     let lengths = c .before .before .before .before in
-    let s = s (start3 lengths) in
-    let half : length s - 32 ≡ 32 = omega (arith, lengths .if3 .left) in
-    record { sized = sized (lengths .before .before); places = ap length (last-part s 0 32) ∙ length-drop 32 s ∙ half }
+    record { sized = sized (lengths .before .before); places = simp (length-take, length-drop) (omega (arith, lengths .if3 .left)) }
 
 module _ (c : tie.After-side-formed2) where
   abbrev lengths : tie.Else3

@@ -7,6 +7,7 @@ use borrow.Author.Needs.{needs}
 use mir.Syntax.{w16, w32}
 use mir.Val.{Fits}
 use native.Mathlib.Nat.{add-mul, mul-le-mul}
+use mir.Facts.{fits-widen}
 use native.Mathlib.Omega.{arith}
 use lib.ListN.{length, getD, take, drop, length-drop}
 use lib.Pow.{pow-mono}
@@ -18,7 +19,6 @@ use Rattle.kinds.specs.Reasons.{RightLengths}
 use Rattle.kinds.specs.Refusal.{said}
 use Rattle.kinds.proofs.TruthLaws.{says-yes}
 use Rattle.kinds.proofs.AnswerLaws.{refused-by, done-by}
-use Rattle.bits.proofs.FitLaws.{fits-32, fits-64}
 use Rattle.sheet.specs.Sheet.{countPlace, stagePlaces, stagesIn, sideOf, writePlaces, readPlaces, writeSide, readSide}
 use Rattle.sheet.specs.Layout.{FormedSide, WellFormed}
 use Rattle.sheet.specs.Table.{sheetTable}
@@ -58,9 +58,6 @@ module _ {x y : ℕ} (f : Fits w16 x) (g : Fits w16 y) where
   switches-fit {p} h =
       let both : x + y ≤ 2 ^ 17 = omega arith in
       omega (arith, mul-le-mul both h)
-
-once : {x : ℕ} → Fits w32 x → Fits w32 (1 * x)
-once f = omega arith
 
 -- the check's answer, whatever it is
 module _ (c : tie.After-check) where
@@ -106,7 +103,7 @@ shared-slice-read-write : tie.Need-shared-slice-read-write
 shared-slice-read-write c = omega (arith, places (c .before))
 
 cast-write : tie.Need-cast-write
-cast-write c = fits-64 (c .shared-slice-known2 .given _)
+cast-write c = fits-widen tt (c .shared-slice-known2 .given _)
 
 add-read : tie.Need-add-read
 add-read c = search needs
@@ -118,19 +115,19 @@ shared-slice-read-read : tie.Need-shared-slice-read-read
 shared-slice-read-read c = omega (arith, places (c .before .before))
 
 cast-read : tie.Need-cast-read
-cast-read c = fits-64 (c .shared-slice-known3 .given _)
+cast-read c = fits-widen tt (c .shared-slice-known3 .given _)
 
 cast-switches : tie.Need-cast-switches
-cast-switches c = fits-32 (c .shared-slice-known3 .given _)
+cast-switches c = fits-widen tt (c .shared-slice-known3 .given _)
 
 cast-switches-2 : tie.Need-cast-switches-2
-cast-switches-2 c = fits-32 (c .shared-slice-known3 .given _)
+cast-switches-2 c = fits-widen tt (c .shared-slice-known3 .given _)
 
 add-switches : tie.Need-add-switches
 add-switches c = sum-fits (c .shared-slice-known3 .given _) (c .shared-slice-known3 .given _)
 
 sub-two-to : tie.Need-sub-two-to
-sub-two-to c = sound (c .before .before) .0 .least
+sub-two-to c = omega (arith, sound (c .before .before) .0 .least)
 
 two-to-requires : tie.Need-two-to-requires
 two-to-requires c κs = search needs
@@ -190,7 +187,7 @@ mul-multiplexers : tie.Need-mul-multiplexers
 mul-multiplexers c =
     let powered = c .before .before .before .before in
     let known = powered .before .shared-slice-known3 .given in
-    once (switches-fit (known _) (known _) (ports powered))
+    omega (arith, switches-fit (known 15) (known 47) (ports powered))
 
 gates-fit : {n k : ℕ} {l : List ℕ} → Sized edition1 n k → FormedSide edition1 n k l → total xorGates (sideOf edition1 n k l .stages) ≤ 15 * 8
 gates-fit {n} {k} {l} sized formed =

@@ -5,10 +5,10 @@ use mathlib.Core.List.{List}
 use mathlib.Core.Logic.{_↔_}
 use borrow.Author.Count.{below-none, below-more}
 use borrow.Author.Needs.{needs}
+use mir.Facts.{fits-widen}
 use native.Mathlib.Omega.{arith}
 use Rattle.kinds.specs.Answers.{Says}
 use Rattle.kinds.proofs.TruthLaws.{says-no, says-yes}
-use Rattle.bits.proofs.FitLaws.{fits-32}
 use Rattle.sheet.specs.Sheet.{Stage, stageAt, stagesIn}
 use Rattle.sheet.specs.Layout.{StageInRange, EachStage}
 use Rattle.sheet.proofs.StageLaws.{each-stage}
@@ -40,7 +40,7 @@ shared-slice-read-direction : tie.Need-shared-slice-read-direction Inv-loop μ-l
 shared-slice-read-direction c = search needs
 
 cast-direction : tie.Need-cast-direction Inv-loop μ-loop
-cast-direction c = fits-32 (c .shared-slice-known .given _)
+cast-direction c = fits-widen tt (c .shared-slice-known .given _)
 
 mul-control : tie.Need-mul-control Inv-loop μ-loop
 mul-control c = search needs
@@ -55,7 +55,7 @@ shared-slice-read-control : tie.Need-shared-slice-read-control Inv-loop μ-loop
 shared-slice-read-control c = search needs
 
 cast-control : tie.Need-cast-control Inv-loop μ-loop
-cast-control c = fits-32 (c .shared-slice-known2 .given _)
+cast-control c = fits-widen tt (c .shared-slice-known2 .given _)
 
 module _ (c : tie.Start Inv-loop μ-loop) where
   abbrev l : List ℕ

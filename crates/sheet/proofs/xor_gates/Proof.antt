@@ -3,11 +3,10 @@ use Prim.Native.Nat.{ℕ, _+_, _-_, _*_, _≤_, _<_}
 use mathlib.Core.Path.{_≡_, sym}
 use mathlib.Core.List.{List}
 use borrow.Author.Needs.{needs}
-use mir.Syntax.{w16, w32}
-use mir.Val.{Fits}
+use mir.Facts.{fits-widen}
 use native.Mathlib.Omega.{arith}
 use lib.Count.{ones, ones-le}
-use Rattle.bits.proofs.FitLaws.{ones-least, fits-32}
+use Rattle.bits.proofs.ParityLaws.{ones-least}
 use Rattle.sheet.specs.Sheet.{stagesIn, stageAt}
 use Rattle.sheet.specs.Price.{total, xorGates}
 use Rattle.sheet.proofs.StageLaws.{each-stage, total-none, total-more, gates-few}
@@ -27,9 +26,6 @@ abbrev μ-loop : tie.MeasureT-loop
 more : {l : List ℕ} {count gates s : ℕ} → Counted l count gates s → s < count → Counted l count (gates + xorGates (stageAt l s)) (s + 1)
 more {l} {count} {gates} {s} p h = record { within = omega arith; counted = omega (arith, total-more xorGates l s) }
 
-some-more : {gates x : ℕ} → gates ≤ 15 * 8 → Fits w16 x → Fits w32 (gates + (ones x - 1))
-some-more {gates} {x} g f = omega (arith, ones-le 16 x (omega arith))
-
 loop-holds : tie.Need-loop-holds Inv-loop μ-loop
 loop-holds c = record { within = omega arith; counted = sym (total-none xorGates _) }
 
@@ -46,20 +42,32 @@ shared-slice-read-control : tie.Need-shared-slice-read-control Inv-loop μ-loop
 shared-slice-read-control c = search needs
 
 cast-control : tie.Need-cast-control Inv-loop μ-loop
-cast-control c = fits-32 (c .shared-slice-known .given _)
+cast-control c = fits-widen tt (c .shared-slice-known .given _)
+
+-- the control of stage s
+module _ (c : tie.After-shared-slice-known Inv-loop μ-loop) where
+  abbrev start : tie.Start Inv-loop μ-loop
+  start = c .before .before .before
+
+  abbrev control : ℕ
+  control = stageAt (start .args .stages .now) (c .before .before .loop .s) .control
+
+  least : 1 ≤ ones control
+  least =
+      ones-least control
+      (each-stage (λ s. 1 ≤ s .control) (start .args .stages .now) (start .args .count) .0 (start .pre .controls) (c .before .before .loop .s) (c .before .loop-test .taken))
+
+  most : ones control ≤ 16
+  most = ones-le 16 control (omega (arith, c .shared-slice-known .given (2 * c .before .before .loop .s + 1)))
 
 sub-gates : tie.Need-sub-gates Inv-loop μ-loop
-sub-gates c =
-    let start = c .before .before .before in
-    let controls = each-stage (λ s. 1 ≤ s .control) (start .args .stages .now) (start .args .count) .0 (start .pre .controls) in
-    ones-least _ (controls (c .before .before .loop .s) (c .before .loop-test .taken))
+sub-gates c = omega (arith, least c)
 
 add-gates : tie.Need-add-gates Inv-loop μ-loop
 add-gates c =
-    let start = c .before .before .before in
     let loop = c .before .before .loop in
-    let few = gates-few (start .args .stages .now) (loop .s) (λ i h. omega (arith, c .shared-slice-known .given (2 * i + 1))) in
-    some-more (omega (arith, few, loop .inv, start .pre .room, start .pre .places)) (c .shared-slice-known .given _)
+    let few = gates-few (start c .args .stages .now) (loop .s) (λ i h. omega (arith, c .shared-slice-known .given (2 * i + 1))) in
+    omega (arith, few, most c, loop .inv, start c .pre .few)
 
 add-s : tie.Need-add-s Inv-loop μ-loop
 add-s c = search needs

@@ -18,12 +18,13 @@ use Rattle.kinds.specs.declared.Refusal.the-variants.{Length}
 use Rattle.kinds.proofs.TruthLaws.{denied}
 use Rattle.kinds.proofs.LowestLaws.{lowest-take, lowest-none}
 use Rattle.kinds.proofs.AnswerLaws.{not-both, refuses, does}
+use Rattle.bits.proofs.ImageLaws.{image-zero}
 use Rattle.maps.specs.Cells.{cellAt}
 use Rattle.maps.specs.Opened.{IsCell, ListsCells}
 use Rattle.maps.specs.Inside.{IsColumn, Doubled}
 use Rattle.maps.specs.declared.OpenSide.{OpenSide}
 use Rattle.maps.proofs.CellLaws.{cell-double}
-use Rattle.maps.proofs.OpenLaws.{shown-k}
+use Rattle.maps.proofs.OpenLaws.{shown-k, is-bank, is-cell}
 use Rattle.maps.proofs.OpenSide.cells.Statement.{statement}
 use Rattle.maps.proofs.OpenSide.cells.Tie as tie
 
@@ -93,10 +94,10 @@ right {o} {came} {out} {first} c i end cell n k S h =
     })
 
 abbrev Inv-loop : tie.InvT-loop
-Inv-loop self out₀ filled₀ j₀ out filled j = Listing self out₀ out filled j
+Inv-loop out₀ self filled₀ j₀ out filled j = Listing self out₀ out filled j
 
 abbrev μ-loop : tie.MeasureT-loop
-μ-loop self out₀ filled₀ j₀ out filled j = length out₀ - filled
+μ-loop out₀ self filled₀ j₀ out filled j = length out₀ - filled
 
 is-two-to-requires : tie.Need-is-two-to-requires Inv-loop μ-loop
 is-two-to-requires c κs = search needs
@@ -104,17 +105,36 @@ is-two-to-requires c κs = search needs
 returns : tie.Need-returns Inv-loop μ-loop
 returns c = wrong _ _ _ (denied (c .before .is-two-to .ensures) (not-true _ (c .if1 .taken)))
 
-cell-requires : tie.Need-cell-requires Inv-loop μ-loop
-cell-requires c κs = search needs
+address-requires : tie.Need-address-requires Inv-loop μ-loop
+address-requires c κs = search needs
 
-length-right : (c : tie.After-cell Inv-loop μ-loop) → length (c .before .before .before .before .args .out .now) ≡ 2 ^ c .before .before .before .before .args .self .k
-length-right c = c .before .before .is-two-to .ensures .0 (not-false _ (c .before .if1 .left))
+after-stages-requires : tie.Need-after-stages-requires Inv-loop μ-loop
+after-stages-requires c κs = search needs
+
+cell-number-requires : tie.Need-cell-number-requires Inv-loop μ-loop
+cell-number-requires c κs = search needs
+
+-- the cell of port 0 is at hand
+module _ (c : tie.After-cell-number Inv-loop μ-loop) where
+  abbrev begin : tie.Start Inv-loop μ-loop
+  begin = c .before .before .before .before .before .before .before .before .before
+
+  abbrev o : OpenSide
+  o = begin .args .t1
+
+  length-right : length (begin .args .out .now) ≡ 2 ^ o .k
+  length-right = c .before .before .before .before .before .before .before .is-two-to .ensures .0 (not-false _ (c .before .before .before .before .before .before .if1 .left))
+
+  first : IsCell o (begin .args .tick .0) 0 (c .cell-number .result)
+  first =
+      is-cell (begin .args .tick .0) 0 (c .before .before .before .before .before .address .ensures)
+      (is-bank o (begin .args .tick .0) 0 (sym (image-zero (o .wiring))) (c .before .after-stages .ensures)) (c .cell-number .ensures)
 
 slice-write-out : tie.Need-slice-write-out Inv-loop μ-loop
-slice-write-out c = omega (arith, length-right c, pow-pos (c .before .before .before .before .args .self .k))
+slice-write-out c = omega (arith, length-right c, pow-pos (o c .k))
 
 loop-holds : tie.Need-loop-holds Inv-loop μ-loop
-loop-holds c = let start-of = c .before .before .before .before in start (start-of .args .out .now) (c .cell .result) (omega (arith, start-of .good)) (length-right c)
+loop-holds c = start (begin c .args .out .now) (c .cell-number .result) (omega (arith, begin c .good)) (length-right c)
 
 column-requires : tie.Need-column-requires Inv-loop μ-loop
 column-requires c κs = search needs
@@ -137,10 +157,10 @@ loop-again : tie.Need-loop-again Inv-loop μ-loop
 loop-again c = more (c .before .before .before .before .before .before .loop .inv) (c .before .before .before .before .before .loop-test .taken) (c .before .before .before .before .column .ensures) (c .before .before .double .ensures)
 
 same-length : tie.Need-same-length Inv-loop μ-loop
-same-length c = c .before .loop .inv .same ∙ length-set (c .before .before .before .before .before .before .args .out .now) 0 (c .before .before .cell .result)
+same-length c = c .before .loop .inv .same ∙ length-set (begin (c .before .before) .args .out .now) 0 (c .before .before .cell-number .result)
 
 returns-2 : tie.Need-returns-2 Inv-loop μ-loop
-returns-2 c = right (c .before .before .before .before .before .before .args .tick .0) (c .before .loop .inv) (c .loop-test .left) (c .before .before .cell .ensures)
+returns-2 c = right (begin (c .before .before) .args .tick .0) (c .before .loop .inv) (c .loop-test .left) (first (c .before .before))
 
 pub cells-spec : {M : Type 1} → statement M
 cells-spec =
@@ -150,7 +170,9 @@ cells-spec =
     μ-loop
     is-two-to-requires
     returns
-    cell-requires
+    address-requires
+    after-stages-requires
+    cell-number-requires
     slice-write-out
     loop-holds
     column-requires

@@ -1,7 +1,5 @@
 -- The meanings on sheets of 01. The sheet planned for bit reversal at n 3, k 1 (write addresses 2 1 0, read addresses 0 1 2, wirings 1, stages (1,2) and (1,2)) is
--- taken, and read as it was laid out; its price is 2 switches, 2 multiplexers and no xor gate. One number changed in it, on either side, gives 5: a number one
--- beyond its range in each field, a control or a direction of 0, and something in an unused place of each kind. Eight stages are taken, nine give 5.
--- At t = 0 (n 2, k 2) an empty sheet with its wiring is taken, and any stage gives 5. A sheet of another length gives 2, sizes out of range 1.
+-- taken, and read as it was laid out; its price is 2 switches, 2 multiplexers and no xor gate.
 use Prim.Native.Nat.{ℕ, zero, suc, _+_}
 use mathlib.Core.Path.{_≡_, refl}
 use mathlib.Core.List.{List, [], _∷_, _++_, map}
@@ -13,13 +11,13 @@ use Rattle.kinds.specs.Refusal.{given}
 use Rattle.kinds.specs.Lowest.{lowest}
 use Rattle.kinds.specs.Reasons.{rightLengths?}
 use Rattle.kinds.specs.Search.{eachBelow}
-use Rattle.sheet.specs.Sheet.{stagesIn, writeSide, readSide}
 use Rattle.bits.specs.Image.{allBelow?}
+use Rattle.sheet.specs.Sheet.{stagesIn, writeSide, readSide}
 use Rattle.sheet.specs.Layout.{fromTo?, stageInRange?, eachStage?, inRange?, allZero?, formedSide?, wellFormed?}
 use Rattle.sheet.specs.Table.{sheetTable}
 use Rattle.sheet.specs.Price.{total, priceOf}
 
-abbrev pub zeros : ℕ → List ℕ
+abbrev zeros : ℕ → List ℕ
 zeros n = replicate n 0
 
 abbrev pub reversal : List ℕ
@@ -27,35 +25,19 @@ reversal =
     (2 ∷ 1 ∷ 0 ∷ zeros 7) ++ (1 ∷ zeros 4) ++ (1 ∷ 1 ∷ 2 ∷ zeros 14)
     ++ (0 ∷ 1 ∷ 2 ∷ zeros 7) ++ (1 ∷ zeros 4) ++ (1 ∷ 1 ∷ 2 ∷ zeros 14)
 
-abbrev answer : ℕ → ℕ → List ℕ → ℕ
-answer n k s = given (lowest (sheetTable edition1 n k s []))
-
--- what is answered where one place of the reversal sheet holds another number, on the write side and on the read side
-abbrev spoilt : ℕ × ℕ → ℕ × ℕ
-spoilt (j, v) = (answer 3 1 (set reversal j v), answer 3 1 (set reversal (32 + j) v))
-
 read-off : (writeSide edition1 3 1 reversal ≡ record { addresses = 2 ∷ 1 ∷ 0 ∷ []; wiring = 1 ∷ []; stages = record { direction = 1; control = 2 } ∷ [] })
     × (readSide edition1 3 1 reversal ≡ record { addresses = 0 ∷ 1 ∷ 2 ∷ []; wiring = 1 ∷ []; stages = record { direction = 1; control = 2 } ∷ [] })
 unfolding stagesIn
 read-off = (refl, refl)
 
-refused-sheets : map (λ (n, k, s). answer n k s) (
-    (3, 1, reversal) ∷ (3, 0, reversal) ∷ (11, 1, []) ∷ (3, 1, []) ∷ (3, 1, reversal ++ (0 ∷ [])) ∷ (2, 1, reversal) ∷ []
-    ) ≡ 0 ∷ 1 ∷ 1 ∷ 2 ∷ 2 ∷ 5 ∷ []
-unfolding lowest sized? decLe rightLengths? ℕ-discrete stagesIn fromTo? stageInRange? eachStage? allBelow? inRange? allZero? formedSide? wellFormed? eachBelow decLt
-refused-sheets = refl
+abbrev answer : ℕ → ℕ → List ℕ → ℕ
+answer n k s = given (lowest (sheetTable edition1 n k s []))
 
-within : map spoilt ((2, 3) ∷ (10, 0) ∷ (17, 1) ∷ (17, 3) ∷ []) ≡ (0, 0) ∷ (0, 0) ∷ (0, 0) ∷ (0, 0) ∷ []
-unfolding lowest sized? decLe rightLengths? ℕ-discrete stagesIn fromTo? stageInRange? eachStage? allBelow? inRange? allZero? formedSide? wellFormed? eachBelow decLt
-within = refl
+-- the answers where one place of the reversal sheet holds another number, on the write side and on the read side
+abbrev spoilt : ℕ × ℕ → ℕ × ℕ
+spoilt (j, v) = (answer 3 1 (set reversal j v), answer 3 1 (set reversal (32 + j) v))
 
-beyond : map spoilt (
-    (2, 4) ∷ (10, 2) ∷ (15, 0) ∷ (15, 2) ∷ (16, 0) ∷ (16, 2) ∷ (17, 0) ∷ (17, 4) ∷ (3, 1) ∷ (9, 1) ∷ (11, 1) ∷ (14, 1) ∷ (18, 1) ∷ (31, 1) ∷ []
-    ) ≡ replicate 14 (5, 5)
-unfolding lowest sized? decLe rightLengths? ℕ-discrete stagesIn fromTo? stageInRange? eachStage? allBelow? inRange? allZero? formedSide? wellFormed? eachBelow decLt
-beyond = refl
-
--- a side at n 10, k 5 with m stages (1, 31)
+-- a side with m stages (1, 31) written down as 8
 abbrev staged : ℕ → List ℕ
 staged m = zeros 15 ++ (m ∷ flat 8)
   where
@@ -63,15 +45,23 @@ staged m = zeros 15 ++ (m ∷ flat 8)
     flat zero = []
     flat (suc s) = 1 ∷ 31 ∷ flat s
 
-stage-counts : map (λ m. answer 10 5 (staged m ++ staged 8)) (7 ∷ 8 ∷ 9 ∷ []) ≡ 5 ∷ 0 ∷ 5 ∷ []
-unfolding lowest sized? decLe rightLengths? ℕ-discrete stagesIn fromTo? stageInRange? eachStage? allBelow? inRange? allZero? formedSide? wellFormed? eachBelow decLt
-stage-counts = refl
+-- a side at n 2, k 2, where t is 0: the address column a, the wiring 1 2, and a count with one stage
+abbrev one-tick : ℕ → ℕ → List ℕ
+one-tick a m = (a ∷ zeros 9) ++ (1 ∷ 2 ∷ zeros 3) ++ (m ∷ m ∷ m ∷ zeros 14)
 
-one-tick : map (λ l. answer 2 2 (l ++ l)) (
-    (zeros 10 ++ (1 ∷ 2 ∷ 0 ∷ 0 ∷ 0 ∷ zeros 17)) ∷ (zeros 10 ++ (1 ∷ 2 ∷ 0 ∷ 0 ∷ 0 ∷ 1 ∷ 1 ∷ 1 ∷ zeros 14)) ∷ ((1 ∷ zeros 9) ++ (1 ∷ 2 ∷ zeros 20)) ∷ []
-    ) ≡ 0 ∷ 5 ∷ 5 ∷ []
+-- Sizes out of range give 1, another length 2, another n 5. In range: an address of 2^t - 1, a wiring of 0, controls of 1 and 2^t - 1. One number changed gives 5: one beyond its range in each
+-- field, a direction or a control of 0, and something in an unused place of each kind. Eight stages are taken, nine give 5, and so does one too few. At t = 0 any stage gives 5, and any address.
+answers : (map (λ (n, k, s). answer n k s) (
+    (3, 1, reversal) ∷ (3, 0, reversal) ∷ (11, 1, []) ∷ (3, 1, []) ∷ (3, 1, reversal ++ (0 ∷ [])) ∷ (2, 1, reversal) ∷ []
+    ) ≡ 0 ∷ 1 ∷ 1 ∷ 2 ∷ 2 ∷ 5 ∷ [])
+    × (map spoilt ((2, 3) ∷ (10, 0) ∷ (17, 1) ∷ (17, 3) ∷ []) ≡ replicate 4 (0, 0))
+    × (map spoilt (
+    (2, 4) ∷ (10, 2) ∷ (15, 0) ∷ (15, 2) ∷ (16, 0) ∷ (16, 2) ∷ (17, 0) ∷ (17, 4) ∷ (3, 1) ∷ (9, 1) ∷ (11, 1) ∷ (14, 1) ∷ (18, 1) ∷ (31, 1) ∷ []
+    ) ≡ replicate 14 (5, 5))
+    × (map (λ m. answer 10 5 (staged m ++ staged 8)) (7 ∷ 8 ∷ 9 ∷ []) ≡ 5 ∷ 0 ∷ 5 ∷ [])
+    × (map (λ (a, m). answer 2 2 (one-tick a m ++ one-tick 0 0)) ((0, 0) ∷ (0, 1) ∷ (1, 0) ∷ []) ≡ 0 ∷ 5 ∷ 5 ∷ [])
 unfolding lowest sized? decLe rightLengths? ℕ-discrete stagesIn fromTo? stageInRange? eachStage? allBelow? inRange? allZero? formedSide? wellFormed? eachBelow decLt
-one-tick = refl
+answers = (refl, refl, refl, refl, refl)
 
 prices : (priceOf edition1 3 1 reversal ≡ 2 ∷ 2 ∷ 0 ∷ []) × (priceOf edition1 10 5 (staged 8 ++ staged 8) ≡ 256 ∷ 256 ∷ 64 ∷ [])
 unfolding stagesIn total ones

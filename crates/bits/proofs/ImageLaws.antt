@@ -1,7 +1,7 @@
 -- The image under columns is a linear map, and every linear map of n bits is the image under its columns.
 --   below-one, below-append    lists of numbers below a bound
 --   image-nil, image-cons      the definition, as equations
---   chosen-xor, chosen-lt, linear-chosen    choosing by a bit passes through exclusive or, keeps a bound, and passes through a linear map
+--   chosen-zero, chosen-xor, chosen-lt, linear-chosen    choosing by a bit makes nothing of 0, passes through exclusive or, keeps a bound, and passes through a linear map
 --   image-zero          the image of 0
 --   image-xor           the image is linear
 --   image-unit          the image of 2^j is column j
@@ -17,6 +17,7 @@
 --   columns-below       values of m bits give columns of m bits
 --   columns-image       the columns of an image are the columns
 --   linear-image        a linear map on the numbers of n bits is the image under its columns
+--   same-image          columns that show the same numbers have the same images
 --   linear-agree        two linear maps that agree at 2^0 .. 2^(n-1) agree on all numbers of n bits
 use Prim.Native.Nat.{ℕ, zero, suc, _+_, _*_, _/_, _%_, _^_, _<_}
 use mathlib.Core.Path.{_≡_, refl, sym, ap, ap₂, _∙_}
@@ -55,6 +56,10 @@ pub image-zero : (cs : List ℕ) → image cs 0 ≡ 0
 unfolding image
 image-zero [] = refl
 image-zero (c ∷ cs) = image-zero cs
+
+pub chosen-zero : (b : ℕ) → chosen b 0 ≡ 0
+chosen-zero zero = refl
+chosen-zero (suc b) = refl
 
 pub chosen-xor : (a b c : ℕ) → chosen ((a + b) % 2) c ≡ bitXor (chosen (a % 2) c) (chosen (b % 2) c)
 chosen-xor a b c = go (even-or-odd a) (even-or-odd b)
@@ -174,3 +179,11 @@ linear-agree n f g l m same x b =
         ext-getD 0 (columns n f) (columns n g) (columns-length n f ∙ sym (columns-length n g))
         (λ j h.
         let k : j < n = omega (arith, columns-length n f) in columns-at n f j k ∙ same j k ∙ sym (columns-at n g j k))
+
+lt-two-to : (x : ℕ) → x < 2 ^ x
+lt-two-to zero = omega arith
+lt-two-to (suc x) = omega (arith, pow-suc 2 x, lt-two-to x)
+
+pub same-image : (cs ds : List ℕ) → ((j : ℕ) → getD cs j 0 ≡ getD ds j 0) → (x : ℕ) → image cs x ≡ image ds x
+same-image cs ds same x =
+    linear-agree x (image cs) (image ds) (image-xor cs) (image-xor ds) (λ j h. image-unit cs j ∙ same j ∙ sym (image-unit ds j)) x (lt-two-to x)

@@ -2,22 +2,18 @@
 --   ones-more       j ones in a row and 2^j together are j + 1 ones
 --   trailing-lt     a number of m bits that is not 0 has fewer than m trailing zeros
 --   next-xor        a number and the next differ in the next one's trailing zeros and the bit above them
-use Prim.Native.Nat.{ℕ, zero, suc, _+_, _*_, _-_, _/_, _^_, _≤_, _<_}
+use Prim.Native.Nat.{ℕ, zero, suc, _+_, _-_, _/_, _^_, _≤_, _<_}
 use mathlib.Core.Path.{_≡_, ap, _∙_}
 use mathlib.Core.Logic.{⊎-elim}
 use native.Mathlib.Omega.{arith}
 use native.Mathlib.Nat.{pow-suc}
-use lib.Bits.{bitXor, xor-comm, xor-self, xor-shifted}
+use lib.Bits.{bitXor, xor-self}
 use lib.Count.{trailingZeros}
 use lib.Pow.{pow-add, pow-pos, ones-lt}
-use Rattle.bits.proofs.XorLaws.{even-or-odd, xor-half, xor-low}
+use Rattle.bits.proofs.XorLaws.{even-or-odd, xor-half, xor-low, xor-above}
 
 pub ones-more : (j : ℕ) → bitXor (2 ^ j - 1) (2 ^ j) ≡ 2 ^ (j + 1) - 1
-ones-more j =
-    xor-comm (2 ^ j - 1) (2 ^ j)
-    ∙ ap (λ (x : ℕ). bitXor x (2 ^ j - 1)) {x = 2 ^ j} {y = 1 * 2 ^ j} (omega arith)
-    ∙ xor-shifted 1 j (2 ^ j - 1) (ones-lt j)
-    ∙ omega (arith, pow-add 2 j 1, pow-pos j)
+ones-more j = xor-above j (2 ^ j - 1) (ones-lt j) ∙ omega (arith, pow-add 2 j 1, pow-pos j)
 
 pub trailing-lt : (w m x : ℕ) → 0 < x → x < 2 ^ m → m ≤ w → trailingZeros w x < m
 unfolding trailingZeros

@@ -12,13 +12,14 @@
 --   and-xor             AND distributes over exclusive or
 --   xor-double          doubling passes through exclusive or
 --   xor-split           a number is its lowest bit and twice its half
-use Prim.Native.Nat.{ℕ, zero, suc, _+_, _*_, _/_, _%_, _<_, min}
+--   xor-above           a number of j bits and 2^j have no bit in common
+use Prim.Native.Nat.{ℕ, zero, suc, _+_, _*_, _/_, _%_, _^_, _<_, min}
 use mathlib.Core.Path.{_≡_, refl, sym, ap, ap₂, _∙_}
 use mathlib.Core.Logic.{_⊎_, inl, inr}
 use native.Mathlib.Omega.{arith}
 use native.Mathlib.Nat.{add-mod, add-assoc}
 use lib.Arith.{bin-ind}
-use lib.Bits.{bitXor, bitAnd, xor-shr, and-shr, xor-add-and, xor-comm, xor-self, xor-zero-r, and-step}
+use lib.Bits.{bitXor, bitAnd, xor-shr, and-shr, xor-add-and, xor-comm, xor-self, xor-zero-r, xor-shifted, and-step}
 
 pub by-halves : {a b : ℕ} → a / 2 ≡ b / 2 → a % 2 ≡ b % 2 → a ≡ b
 by-halves h l = omega arith
@@ -95,3 +96,10 @@ xor-split x =
     by-halves
     (sym (xor-half (x % 2) (2 * (x / 2)) ∙ ap₂ bitXor {x = x % 2 / 2} {y = 0} (omega arith) (double-half (x / 2))))
     (omega (arith, xor-low (x % 2) (2 * (x / 2))))
+
+pub xor-above : (j p : ℕ) → p < 2 ^ j → bitXor p (2 ^ j) ≡ 2 ^ j + p
+xor-above j p l =
+    xor-comm p (2 ^ j)
+    ∙ ap (λ (x : ℕ). bitXor x p) {x = 2 ^ j} {y = 1 * 2 ^ j} (omega arith)
+    ∙ xor-shifted 1 j p l
+    ∙ omega arith

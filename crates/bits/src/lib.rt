@@ -36,7 +36,7 @@ pub fn image(columns: &[u16], x: u32) -> u16
     sum
 }
 
-// Whether each number has at most m bits. Where none has more, neither have all of them together.
+// Whether each number has at most m bits: each has exactly when their OR has, so one comparison serves.
 pub fn within_bits(numbers: &[u16], m: u32) -> bool
     ensures { λ r. ⌜ Says r (AllBelow (2 ^ m) (now (numbers .entry))) ⌝ }
 {

@@ -70,9 +70,9 @@ pub fn number(refusal: Refusal) -> u32
     }
 }
 
-const MOST_N: u32 = 10;
+pub const MOST_N: u32 = 10;
 
-const MOST_K: u32 = 5;
+pub const MOST_K: u32 = 5;
 
 pub fn sized_n(n: u32) -> bool
     ensures { λ r. ⌜ Says r (SizedN edition1 n) ⌝ }

@@ -1,5 +1,5 @@
--- The maps on sheets of 01. On the sheet planned for bit reversal at n 3, k 1, banks, addresses and cells of every word; M is N after the order, and both have independent
--- columns. With write control 1 for 2 two words share a cell.
+-- The maps on sheets of 01. On the sheet planned for bit reversal at n 3, k 1: addresses and banks of every word on the write side, the cells of M, and that they are those of N after the
+-- order; the columns of M. With write control 1 for 2 two words share a cell.
 use Prim.Native.Nat.{ℕ}
 use mathlib.Core.Path.{_≡_, refl}
 use mathlib.Core.List.{List, [], _∷_, map}

@@ -1,11 +1,8 @@
 -- Laws of a side's map.
---   directions ss, controls ss      the directions of the stages ss, and their controls
---   selected ss c       the sum of the directions whose controls AND c have an odd number of ones
 --   after-append        stages after stages
 --   stages-sum          what stages do to a bank: they xor in the selected directions
 --   bank-parts          the bank of a word: what the wiring makes of its port, and the stages of its tick
 --   same-bank           two words of one tick share a bank exactly when the wiring sends their ports to one bank
---   directions-below    directions in range are below 2^k
 --   bank-lt, address-lt, cell-lt    banks, addresses and cells are below 2^k, 2^t and 2^n
 --   bank-of-cell, address-of-cell   a cell number has the bank and the address of the word that is there
 --   cell-word           the cell of the word at a tick and port is the map's
@@ -19,7 +16,7 @@
 --   cell-double         one port bit more: one exclusive or
 use Prim.Native.Nat.{ℕ, zero, suc, _+_, _-_, _*_, _/_, _%_, _^_, _<_, _≤_}
 use mathlib.Core.Path.{_≡_, refl, sym, ap, ap₂, _∙_}
-use mathlib.Core.List.{List, [], _∷_, _++_, map}
+use mathlib.Core.List.{List, [], _∷_, _++_}
 use mathlib.Core.Logic.{_↔_}
 use native.Mathlib.Nat.{pow-suc, mod-eq-of-lt, div-eq-of-lt}
 use native.Mathlib.Omega.{arith}
@@ -30,7 +27,7 @@ use lib.Pow.{pow-pos, pow-lt, pow-mono, pow-add, lt-of-le-ones, split, high, low
 use Rattle.kinds.specs.Frame.{tickBits, tickOf, portOf, wordAt, addressOf, bankOf}
 use Rattle.bits.specs.Image.{chosen, image, AllBelow, Linear}
 use Rattle.bits.specs.Parity.{dot}
-use Rattle.bits.proofs.XorLaws.{xor-assoc, xor-swap, xor-cancel}
+use Rattle.bits.proofs.XorLaws.{xor-above, xor-assoc, xor-swap, xor-cancel}
 use Rattle.bits.proofs.ParityLaws.{dot-lt}
 use Rattle.bits.proofs.ImageLaws.{image-nil, image-cons, image-zero, image-xor, image-unit, image-lt, linear-image, linear-agree, linear-zero, columns-length, columns-below}
 use Rattle.span.specs.Maps.{Bijection}
@@ -41,16 +38,8 @@ use Rattle.span.proofs.Counting.{bijection-same}
 use Rattle.span.proofs.SumLaws.{independent-bijection, bijection-independent}
 use Rattle.sheet.specs.Sheet.{Stage, Side}
 use Rattle.sheet.specs.Layout.{StageInRange, EachStage, InRange}
+use Rattle.maps.specs.Stages.{directions, controls, selected}
 use Rattle.maps.specs.Cells.{addressAt, afterStages, bankAt, cellAt, cellOf, cellColumns, portToBank, tickToBank}
-
-abbrev pub directions : List Stage → List ℕ
-directions ss = map (λ s. s .direction) ss
-
-abbrev pub controls : List Stage → List ℕ
-controls ss = map (λ s. s .control) ss
-
-abbrev pub selected : List Stage → ℕ → ℕ
-selected ss c = image (directions ss) (dots (controls ss) c)
 
 pub after-append : (ss ts : List Stage) (c b : ℕ) → afterStages (ss ++ ts) c b ≡ afterStages ts c (afterStages ss c b)
 unfolding afterStages
@@ -112,7 +101,7 @@ module _ (S : Side) where
       ∙ xor-swap (wired p) (wired q) (selected (S .stages) c) (selected (S .stages) d)
       ∙ sym (ap₂ bitXor (stages-sum (S .stages) c (wired p)) (stages-sum (S .stages) d (wired q)))
 
-pub directions-below : (k t : ℕ) (ss : List Stage) → EachStage (StageInRange (2 ^ k) t) ss → AllBelow (2 ^ k) (directions ss)
+directions-below : (k t : ℕ) (ss : List Stage) → EachStage (StageInRange (2 ^ k) t) ss → AllBelow (2 ^ k) (directions ss)
 directions-below k t [] each j h = absurd (omega arith)
 directions-below k t (s ∷ ss) each zero h = lt-of-le-ones k (each .0 .direction .most)
 directions-below k t (s ∷ ss) each (suc j) h = directions-below k t ss (each .1) j (omega arith)
@@ -140,13 +129,6 @@ module _ (k : ℕ) (S : Side) where
       let port = ap (portOf k) (sym above) ∙ low (2 ^ (j - k)) k (pow-pos k) in
       ap₂ (λ (a b : ℕ). a * 2 ^ k + b) (address-of (2 ^ j) ∙ image-unit (S .addresses) j)
       (ap₂ (bankAt S) tick port ∙ ap (afterStages (S .stages) (2 ^ (j - k))) (image-zero (S .wiring)))
-
--- a number of j bits with bit j set besides, and the same in a word
-xor-above : (j p : ℕ) → p < 2 ^ j → bitXor p (2 ^ j) ≡ 2 ^ j + p
-xor-above j p l =
-    ap₂ bitXor (let e : p ≡ 0 * 2 ^ j + p = omega arith in e) (let e : 2 ^ j ≡ 1 * 2 ^ j + 0 = omega arith in e)
-    ∙ xor-block j 0 1 p 0 l (pow-pos j)
-    ∙ rw (xor-zero-r p) (omega arith)
 
 add-lt : (j k : ℕ) {p : ℕ} → j < k → p < 2 ^ j → 2 ^ j + p < 2 ^ k
 add-lt j k h l = omega (arith, pow-suc 2 j, pow-mono {i = suc j} {j = k} h)

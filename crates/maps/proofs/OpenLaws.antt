@@ -1,44 +1,44 @@
 -- An opened side does what the side does that it shows: the zeros after what is used change nothing.
 --   zeros-at          every place of a list of zeros shows 0
---   padded-length     a padded list has openWidth places
 --   padded-at         it shows the numbers of the list, and zeros after them
 --   padded-unique     a list of openWidth places that shows the numbers of another is that one, padded
---   padded-used       what is zero may be left out before
---   stages-length     the first m stages are m
+--   padded-used       padding a list or its beginning is the same where the rest is zero
 --   flat-part         stages that are read off some places are the first of these places
 --   after-none, after-more    the bank before any stage, and after one stage more
---   same-image        columns that show the same numbers have the same images
 --   shown-k           an opened side knows k
 --   shown-addresses, shown-wiring    its columns are those of the side
 --   shown-stages      its stages leave the same bank
 --   whole-number      a cell loses no bit as a number of 16 bits
---   is-bank, is-cell  what the code computes of a bank, and of a cell, is that
---   closed-shows      what stands for a side of a refused sheet shows one too, so that nothing is asked of a side that shows none
+--   is-bank, is-cell  the stages of an opened side after its wiring give the bank of a word; address*2^k + bank is its cell
+--   closed-shows      what stands for a side of a refused sheet shows one too, so every opened side that can be had shows one
 --   opens-unique      opening a sheet has one answer
+--   lists-unique      the cells of a tick have one answer, and leave one content
 use Prim.Native.Nat.{ℕ, zero, suc, _+_, _-_, _*_, _%_, _^_, _≤_, _<_}
 use mathlib.Core.Path.{_≡_, refl, sym, ap, ap₂, _∙_}
 use mathlib.Core.Bool.{Bool}
 use mathlib.Core.List.{List, [], _∷_, _++_, append-assoc}
 use native.Mathlib.Decide.{decLt}
-use native.Mathlib.Nat.{mod-eq-of-lt, pow-suc}
+use native.Mathlib.Nat.{mod-eq-of-lt}
 use native.Mathlib.Numerals.{add-one}
 use native.Mathlib.Omega.{arith}
 use lib.Bits.{bitXor, xor-zero-r}
 use lib.ListN.{length, getD, take, drop, replicate, length-take, length-append, length-replicate, List·getD-append, List·getD-eq-default}
 use lib.Pow.{pow-mono}
-use lib.Seq.{getD-take, getD-drop, getD-append-add, take-suc, ext-getD}
+use lib.Seq.{getD-append-add, take-suc, ext-getD}
 use Rattle.kinds.specs.Edition.{Edition}
 use Rattle.kinds.specs.declared.Answer.{Answer}
 use Rattle.kinds.specs.declared.Answer.the-variants.{Done, Refused}
-use Rattle.kinds.proofs.AnswerLaws.{checks-unique}
+use Rattle.kinds.proofs.AnswerLaws.{said-same, checks-unique, answers-same, answers-agree}
 use Rattle.bits.specs.Image.{chosen, image}
 use Rattle.bits.specs.Parity.{dot}
-use Rattle.bits.proofs.ImageLaws.{image-xor, image-unit, linear-agree}
+use Rattle.bits.proofs.ImageLaws.{chosen-zero, same-image}
 use Rattle.sheet.specs.Sheet.{Stage, Side, stageAt, stagesIn}
 use Rattle.sheet.specs.Layout.{AllZero}
 use Rattle.sheet.specs.Table.{sheetTable}
+use Rattle.sheet.proofs.StageLaws.{same-stages}
+use Rattle.sheet.proofs.PlaceLaws.{take-same}
 use Rattle.maps.specs.Cells.{switched, afterStages, cellAt}
-use Rattle.maps.specs.Opened.{openWidth, openStages, padded, flat, closed, Shows, Opens, IsAddress, IsBank, IsCell}
+use Rattle.maps.specs.Opened.{openWidth, openStages, padded, flat, closed, Shows, Opens, IsAddress, IsBank, IsCell, ListsCells}
 use Rattle.maps.specs.declared.OpenSide.{OpenSide}
 use Rattle.maps.specs.declared.Opened.{Opened}
 use Rattle.maps.proofs.CellLaws.{after-append, cell-lt}
@@ -48,7 +48,7 @@ zeros-at zero j = refl
 zeros-at (suc m) zero = refl
 zeros-at (suc m) (suc j) = zeros-at m j
 
-pub padded-length : (l : List ℕ) → length l ≤ openWidth → length (padded l) ≡ openWidth
+padded-length : (l : List ℕ) → length l ≤ openWidth → length (padded l) ≡ openWidth
 padded-length l h = omega (arith, length-append l (replicate (openWidth - length l) 0), length-replicate {A = ℕ} (openWidth - length l) 0)
 
 pub padded-at : (l : List ℕ) (j : ℕ) → getD (padded l) j 0 ≡ getD l j 0
@@ -64,31 +64,11 @@ padded-at l j = elim (decLt j (length l)) [
 pub padded-unique : (l r : List ℕ) → length l ≤ openWidth → length r ≡ openWidth → ((j : ℕ) → getD r j 0 ≡ getD l j 0) → r ≡ padded l
 padded-unique l r few whole same = ext-getD 0 r (padded l) (whole ∙ sym (padded-length l few)) (λ j h. same j ∙ sym (padded-at l j))
 
-zero-from : (i : ℕ) (l : List ℕ) → AllZero (drop i l) → (j : ℕ) → i ≤ j → getD l j 0 ≡ 0
-zero-from i l zeros j h =
-    ap (λ (x : ℕ). getD l x 0) {x = j} {y = i + (j - i)} (omega arith)
-    ∙ sym (getD-drop i l (j - i) 0)
-    ∙ elim (decLt (j - i) (length (drop i l))) [
-      | yes inside ↦ zeros (j - i) inside
-      | no beyond ↦ List·getD-eq-default (drop i l) 0 (omega arith)
-    ]
-
-take-same : (m : ℕ) (l : List ℕ) → AllZero (drop m l) → (j : ℕ) → getD l j 0 ≡ getD (take m l) j 0
-take-same m l zeros j = elim (decLt j m) [
-  | yes h ↦ sym (getD-take m l j 0 h)
-  | no h ↦ zero-from m l zeros j (omega arith) ∙ sym (List·getD-eq-default (take m l) 0 (omega (arith, length-take m l)))
-]
-
 pub padded-used : (m : ℕ) (l : List ℕ) → length l ≤ openWidth → AllZero (drop m l) → padded l ≡ padded (take m l)
 padded-used m l few zeros =
     padded-unique (take m l) (padded l) (omega (arith, length-take m l)) (padded-length l few) (λ j. padded-at l j ∙ take-same m l zeros j)
 
 -- stages as they stand on a sheet
-
-pub stages-length : (m : ℕ) (l : List ℕ) → length (stagesIn m l) ≡ m
-unfolding stagesIn
-stages-length zero l = refl
-stages-length (suc m) l = omega (arith, length-append (stagesIn m l) (stageAt l m ∷ []), stages-length m l)
 
 flat-snoc : (ss : List Stage) (s : Stage) → flat (ss ++ (s ∷ [])) ≡ flat ss ++ (s .direction ∷ s .control ∷ [])
 flat-snoc [] s = refl
@@ -132,10 +112,6 @@ pub after-more : (m : ℕ) (l : List ℕ) (c b : ℕ) → afterStages (stagesIn 
 unfolding afterStages stagesIn
 after-more m l c b = rw (add-one m) (after-append (stagesIn m l) (stageAt l m ∷ []) c b)
 
-chosen-zero : (b : ℕ) → chosen b 0 ≡ 0
-chosen-zero zero = refl
-chosen-zero (suc b) = refl
-
 idle : (m : ℕ) (l : List ℕ) (c b : ℕ) → getD l (2 * m) 0 ≡ 0 → switched (stageAt l m) c b ≡ b
 idle m l c b none =
     ap (λ (d : ℕ). bitXor b (chosen (dot (stageAt l m .control) c) d)) none
@@ -150,22 +126,7 @@ idle-stages m (suc more) l end c b =
     ∙ idle (m + more) l c (afterStages (stagesIn (m + more) l) c b) (List·getD-eq-default l 0 (omega arith))
     ∙ idle-stages m more l end c b
 
-same-stages : (m : ℕ) (l r : List ℕ) → ((j : ℕ) → getD l j 0 ≡ getD r j 0) → stagesIn m l ≡ stagesIn m r
-unfolding stagesIn
-same-stages zero l r same = refl
-same-stages (suc m) l r same =
-    ap₂ (λ (ss : List Stage) (s : Stage). ss ++ (s ∷ [])) (same-stages m l r same)
-    (ap₂ (λ (d c : ℕ). record { direction = d; control = c }) (same (2 * m)) (same (2 * m + 1)))
-
 -- what an opened side shows
-
-lt-two-to : (x : ℕ) → x < 2 ^ x
-lt-two-to zero = omega arith
-lt-two-to (suc x) = omega (arith, pow-suc 2 x, lt-two-to x)
-
-pub same-image : (cs ds : List ℕ) → ((j : ℕ) → getD cs j 0 ≡ getD ds j 0) → (x : ℕ) → image cs x ≡ image ds x
-same-image cs ds same x =
-    linear-agree x (image cs) (image ds) (image-xor cs) (image-xor ds) (λ j h. image-unit cs j ∙ same j ∙ sym (image-unit ds j)) x (lt-two-to x)
 
 module _ {n k : ℕ} {o : OpenSide} {S : Side} (h : Shows n k o S) where
   pub shown-k : o .k ≡ k
@@ -232,3 +193,12 @@ module _ {e : Edition} {n k : ℕ} {s : List ℕ} {fits : Bool} (r q : Opened) (
       go (Refused x) d =
           let f = sym said-alike ∙ d in
           alike said-alike (a .refused x d .0 ∙ sym (b .refused x f .0)) (a .refused x d .1 ∙ sym (b .refused x f .1))
+
+pub lists-unique : {n k : ℕ} {o : OpenSide} {S : Side} {c : ℕ} (out a b : List ℕ) (r q : Answer) → Shows n k o S
+    → ListsCells o c out a r → ListsCells o c out b q → (r ≡ q) × (a ≡ b)
+lists-unique {n} {k} {o} {S} out a b r q h p w =
+    let x = p n k S h in
+    let y = w n k S h in (
+      said-same r q (answers-same x y),
+      answers-agree x y (λ _ u v. ext-getD 0 a b (u .whole ∙ sym (v .whole)) (λ j l. u .each j (omega (arith, u .whole)) ∙ sym (v .each j (omega (arith, u .whole))))) (λ e f. e ∙ sym f),
+    )

@@ -1,28 +1,21 @@
--- The write side's stages (01, 'The planner's choices'): "a stage's direction is a kept column, and bit j of its control says whether that column is in the sum
--- for tick bit j."
---   KeptStages F ss      the stages ss are so for the columns F of a tick-to-bank part
---   kept-stages          then their tick-to-bank part is the one with the columns F
+-- The write side's stages, as 01's planner chooses them.
+--   kept-stages          stages whose directions are the kept columns of a tick-to-bank part, and whose controls are their sums, have that part
 use Prim.Native.Nat.{ℕ, _^_, _<_}
 use mathlib.Core.Path.{_≡_, sym, ap, _∙_}
 use mathlib.Core.List.{List}
 use lib.ListN.{length, getD, length-map}
 use Rattle.bits.specs.Image.{image}
-use Rattle.bits.specs.Parity.{bit}
 use Rattle.bits.proofs.ImageLaws.{image-xor, image-unit}
 use Rattle.bits.proofs.ParityLaws.{dot-unit}
 use Rattle.span.specs.Rows.{dots}
-use Rattle.span.specs.Scan.{keptAt, kept, mask}
+use Rattle.span.specs.Scan.{keptAt, kept}
 use Rattle.span.proofs.RowLaws.{dots-lt, dots-bit}
 use Rattle.span.proofs.PositionLaws.{sum-by-bits}
 use Rattle.sheet.specs.Sheet.{Stage, Side}
 use Rattle.sheet.specs.Layout.{InRange}
 use Rattle.maps.specs.Cells.{cellOf, tickToBank}
-use Rattle.maps.proofs.CellLaws.{directions, controls, selected, stages-part, stages-made}
-
-pub record KeptStages (F : List ℕ) (ss : List Stage) : Type 0 where
-  pub direction : directions ss ≡ kept F
-  pub control : (s j : ℕ) → s < length ss → j < length F
-      → bit j (getD (controls ss) s 0) ≡ bit (getD (keptAt F (length F)) s 0) (mask F j)
+use Rattle.maps.specs.Stages.{controls, selected, KeptStages}
+use Rattle.maps.proofs.CellLaws.{stages-part, stages-made}
 
 as-many : (F : List ℕ) (ss : List Stage) → KeptStages F ss → length ss ≡ length (keptAt F (length F))
 unfolding kept

@@ -1,8 +1,8 @@
 -- What the functions inside the crate promise one another.
 --   OpensSide k l o      o is a side of edition 1, with the places l, opened, if l keeps the layout
 --   IsColumn o j r       r is column j of the map of whichever side o shows
---   Doubled m v l r      r has the first m places of l, and after them the same with v xored in
-use Prim.Native.Nat.{ℕ, _+_, _^_, _<_}
+--   Doubled m v l r      r is l, but that its places from m to 2m - 1 hold what its first m do, with v xored in
+use Prim.Native.Nat.{ℕ, _+_, _*_, _^_, _<_, _≤_}
 use mathlib.Core.Path.{_≡_}
 use mathlib.Core.List.{List}
 use lib.Bits.{bitXor}
@@ -24,3 +24,4 @@ pub record Doubled (m v : ℕ) (l r : List ℕ) : Type 0 where
   pub same : length r ≡ length l
   pub low : (p : ℕ) → p < m → getD r p 0 ≡ getD l p 0
   pub high : (p : ℕ) → p < m → getD r (m + p) 0 ≡ bitXor (getD l p 0) v
+  pub rest : (p : ℕ) → 2 * m ≤ p → getD r p 0 ≡ getD l p 0

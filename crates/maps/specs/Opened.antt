@@ -3,7 +3,7 @@
 --   padded l                     the numbers of l, and zeros after them, openWidth in all
 --   flat ss                      the numbers of the stages ss, as they stand on a sheet: direction, control, direction, ..
 --   opened k S                   the side S, opened
---   Shows n k o S                o is the side S, opened, of a sheet for n and k that keeps the layout
+--   Shows n k o S                o is the side S, opened: S has n address columns, k wiring columns and at most openStages stages, all in range
 --   closed                       what stands in place of a side where the sheet was refused
 --   Opens e n k s fits r         opening the sheet s: r has the lowest of 1, 2 and 5 that applies, fits as in `Checks`; where none does, r shows both sides
 --   IsAddress o c p r            r is the address of the word at tick c, port p, on whichever side o shows

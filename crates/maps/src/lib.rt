@@ -6,7 +6,7 @@ ghost use Rattle.kinds.specs.Edition.{edition1, sidePlaces};
 ghost use Rattle.kinds.specs.Frame.{wordAt};
 ghost use Rattle.sheet.specs.Sheet.{stagesIn};
 ghost use Rattle.maps.specs.Cells.{afterStages};
-ghost use Rattle.maps.specs.Opened.{openWidth, openStages, padded, Opens, IsAddress, IsBank, IsCell, AreColumns, ListsCells};
+ghost use Rattle.maps.specs.Opened.{openWidth, openStages, padded as paddedOf, Opens, IsAddress, IsBank, IsCell, AreColumns, ListsCells};
 ghost use Rattle.maps.specs.Inside.{OpensSide, IsColumn, Doubled};
 use kinds::Addr;
 use kinds::Answer;
@@ -15,12 +15,15 @@ use kinds::Port;
 use kinds::Refusal;
 use kinds::Tick;
 
+// Places of an opened side for its columns, of either kind, and for its stages.
+const WIDTH: usize = 16;
+
 // A side of a sheet that keeps the layout, with zeros after what it uses, so that each loop below has a fixed end.
 pub struct OpenSide {
     k: u32,
-    addresses: [u16; 16],
-    wiring: [u16; 16],
-    stages: [u16; 16],
+    addresses: [u16; WIDTH],
+    wiring: [u16; WIDTH],
+    stages: [u16; WIDTH],
 }
 
 pub struct Opened {
@@ -38,9 +41,9 @@ pub fn open(n: u32, k: u32, sheet: &[u16], fits: bool) -> Opened
     if !done {
         let closed = OpenSide {
             k: 0,
-            addresses: [0; 16],
-            wiring: [0; 16],
-            stages: [0; 16],
+            addresses: [0; WIDTH],
+            wiring: [0; WIDTH],
+            stages: [0; WIDTH],
         };
         return Opened {
             answer,
@@ -61,9 +64,9 @@ fn open_side(k: u32, side: &[u16]) -> OpenSide
     requires { ⌜ length (now side) ≡ sidePlaces edition1 ⌝ }
     ensures { λ r. ⌜ OpensSide k (now (side .entry)) r ⌝ }
 {
-    let addresses = sixteen(&side[0..sheet::WIRING]);
-    let wiring = sixteen(&side[sheet::WIRING..sheet::COUNT]);
-    let stages = sixteen(&side[sheet::STAGES..]);
+    let addresses = padded(&side[0..sheet::WIRING]);
+    let wiring = padded(&side[sheet::WIRING..sheet::COUNT]);
+    let stages = padded(&side[sheet::STAGES..]);
     OpenSide {
         k,
         addresses,
@@ -73,11 +76,11 @@ fn open_side(k: u32, side: &[u16]) -> OpenSide
 }
 
 // The numbers of a part, and zeros after them.
-fn sixteen(part: &[u16]) -> [u16; 16]
+fn padded(part: &[u16]) -> [u16; WIDTH]
     requires { ⌜ length (now part) ≤ openWidth ⌝ }
-    ensures { λ r. ⌜ r ≡ padded (now (part .entry)) ⌝ }
+    ensures { λ r. ⌜ r ≡ paddedOf (now (part .entry)) ⌝ }
 {
-    let mut numbers = [0; 16];
+    let mut numbers = [0; WIDTH];
     let mut j = 0;
     while j < part.len() {
         numbers[j] = part[j];
@@ -113,24 +116,25 @@ impl OpenSide {
     }
 
     // The first 16 columns of the side's map.
-    pub fn columns(self) -> [u16; 16]
+    pub fn columns(self) -> [u16; WIDTH]
         ensures { λ r. ⌜ AreColumns self r ⌝ }
     {
-        let mut columns = [0; 16];
+        let mut columns = [0; WIDTH];
         let mut j = 0;
-        while j < 16 {
+        while j < WIDTH {
             columns[j] = self.column(j);
             j += 1;
         }
         columns
     }
 
-    // Column j is the cell of word 2^j, which has a port bit and tick 0, or a tick bit and port 0.
+    // Column j is the cell of word 2^j, which has a port bit and tick 0, or a tick bit and port 0. The remainder keeps the index inside whatever k is;
+    // no side that was opened has more than 16 columns.
     fn column(self, j: usize) -> u16
         ensures { λ r. ⌜ IsColumn self j r ⌝ }
     {
         let k = self.k;
-        let at = j % 16;
+        let at = j % WIDTH;
         let bit = at as u32;
         let address = self.addresses[at] as u32;
         if bit < k {
@@ -171,7 +175,7 @@ fn after_stages(stages: &[u16], tick: Tick, bank: Bank) -> Bank
 {
     let mut b = bank.0;
     let mut s = 0;
-    while s < 8 {
+    while s < sheet::MOST_STAGES {
         let direction = stages[2 * s] as u32;
         let control = stages[2 * s + 1] as u32;
         if bits::parity(control & tick.0) == 1 {

@@ -1,7 +1,7 @@
 -- The four parts make up the order, and each is known by its rows.
 --   place-parts            where the word at tick c and port p leaves: the parts of c and the parts of p together
---   P1-linear .. P4-linear each part is linear
---   P1-into .. P4-into     and sends port bits or tick bits to port bits or tick bits
+--   P1-linear, P2-linear, P3-linear, P4-linear    each part is linear
+--   P1-into, P2-into, P3-into, P4-into            and sends port bits or tick bits to port bits or tick bits
 --   rowsOf-dot             row r of a linear map is bit r of its result
 use Prim.Native.Nat.{ℕ, _+_, _^_, _<_, _≤_}
 use mathlib.Core.Path.{_≡_, sym, ap, ap₂, _∙_}

@@ -14,6 +14,7 @@ use native.Mathlib.Decide.{decLt}
 use native.Mathlib.Omega.{arith}
 use lib.ListN.{length, getD}
 use Rattle.kinds.specs.Lowest.{lowest, Ascending}
+use Rattle.kinds.specs.Answers.{Checks}
 use Rattle.kinds.specs.Reasons.{outside, RightLengths, rightLengths?}
 use Rattle.kinds.specs.Refusal.{said}
 use Rattle.kinds.specs.declared.Answer.{Answer}
@@ -25,7 +26,6 @@ use Rattle.bits.specs.Image.{AllBelow}
 use Rattle.span.specs.Sums.{independent?}
 use Rattle.order.specs.Order.{Order}
 use Rattle.order.specs.Table.{ColumnTooLarge, tooLarge, columnTable, orderTable}
-use Rattle.kinds.specs.Answers.{Checks}
 use Rattle.order.specs.Inside.{ChecksColumns}
 use Rattle.order.specs.declared.Checked.{Checked}
 

@@ -1,5 +1,6 @@
 -- The meanings on sheets of 01. The sheet planned for bit reversal at n 3, k 1 (write addresses 2 1 0, read addresses 0 1 2, wirings 1, stages (1,2) and (1,2)) is
 -- taken, and read as it was laid out; its price is 2 switches, 2 multiplexers and no xor gate.
+--   reversal       that sheet
 use Prim.Native.Nat.{ℕ, zero, suc, _+_}
 use mathlib.Core.Path.{_≡_, refl}
 use mathlib.Core.List.{List, [], _∷_, _++_, map}
@@ -37,7 +38,7 @@ answer n k s = given (lowest (sheetTable edition1 n k s []))
 abbrev spoilt : ℕ × ℕ → ℕ × ℕ
 spoilt (j, v) = (answer 3 1 (set reversal j v), answer 3 1 (set reversal (32 + j) v))
 
--- a side with m stages (1, 31) written down as 8
+-- a side of eight stages (1, 31), written down as m
 abbrev staged : ℕ → List ℕ
 staged m = zeros 15 ++ (m ∷ flat 8)
   where

@@ -1,21 +1,23 @@
 -- The stages of a side, one by one.
+--   stages-length   the first m stages are m
+--   same-stages     places that show the same numbers have the same stages
 --   total-append    a sum over stages and then others is the two sums
 --   total-none      a sum over no stages is 0
 --   total-more      one stage more adds what it counts
 --   total-const     where every stage counts the same, the sum is a product
 --   gates-few       stages with controls of 16 bits have at most 15 xor gates each
---   each-stage      each of the first stages has what the stage at every place of theirs has
+--   each-stage      the first m stages all have Q exactly when the stage at each place below m has
 --   formed-stage    a stage of a side that keeps the layout is in range
 --   controlled      the stages of a side that keeps the layout have controls that are not 0, and room
 use Prim.Native.Nat.{ℕ, zero, suc, _+_, _*_, _^_, _≤_, _<_}
-use mathlib.Core.Path.{_≡_, refl, ap, _∙_}
+use mathlib.Core.Path.{_≡_, refl, ap, ap₂, _∙_}
 use mathlib.Core.List.{List, [], _∷_, _++_}
 use mathlib.Core.Logic.{_↔_}
 use native.Mathlib.Numerals.{add-one}
 use native.Mathlib.Nat.{suc-mul}
 use native.Mathlib.Omega.{arith}
 use borrow.Author.Count.{below-more}
-use lib.ListN.{length, length-drop}
+use lib.ListN.{length, getD, length-append, length-drop}
 use lib.Count.{ones-le}
 use Rattle.kinds.specs.Edition.{Edition, edition1, sidePlaces}
 use Rattle.kinds.specs.Frame.{tickBits}
@@ -23,6 +25,18 @@ use Rattle.sheet.specs.Sheet.{Stage, countPlace, stagePlaces, stageAt, s
 use Rattle.sheet.specs.Layout.{StageInRange, EachStage, FormedSide}
 use Rattle.sheet.specs.Price.{total, xorGates}
 use Rattle.sheet.specs.Inside.{Controlled}
+
+pub stages-length : (m : ℕ) (l : List ℕ) → length (stagesIn m l) ≡ m
+unfolding stagesIn
+stages-length zero l = refl
+stages-length (suc m) l = omega (arith, length-append (stagesIn m l) (stageAt l m ∷ []), stages-length m l)
+
+pub same-stages : (m : ℕ) (l r : List ℕ) → ((j : ℕ) → getD l j 0 ≡ getD r j 0) → stagesIn m l ≡ stagesIn m r
+unfolding stagesIn
+same-stages zero l r same = refl
+same-stages (suc m) l r same =
+    ap₂ (λ (ss : List Stage) (s : Stage). ss ++ (s ∷ [])) (same-stages m l r same)
+    (ap₂ (λ (d c : ℕ). record { direction = d; control = c }) (same (2 * m)) (same (2 * m + 1)))
 
 pub total-append : (f : Stage → ℕ) (ss ts : List Stage) → total f (ss ++ ts) ≡ total f ss + total f ts
 unfolding total
@@ -81,7 +95,7 @@ pub controlled : {n k m : ℕ} {l x : List ℕ} → m ≡ countPlace edition1 l 
     → Controlled m x
 controlled {n} {k} {m} {l} {x} count stages places formed =
     let long : length x ≡ 16 = ap length stages ∙ length-drop 16 l ∙ omega arith in
-    let few : m ≤ 8 = omega (arith, formed .count) in
+    let few : m ≤ edition1 .most-stages = omega (arith, formed .count) in
     record {
       room = omega arith;
       few = few;

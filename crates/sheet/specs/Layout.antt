@@ -5,7 +5,7 @@
 --   InRange n k S         every number that the side S uses is in its range: addresses below 2^t, wiring below 2^k,
 --                         "a direction is from 1 to 2^k - 1, a control from 1 to 2^t - 1"
 --   AllZero l             every place of l is zero
---   FormedSide e n k l    a side with the places l keeps the layout: what is used is in range, and "unused places are zero"
+--   FormedSide e n k l    a side with the places l keeps the layout: the stages are few enough, what is used is in range, and "unused places are zero"
 --   WellFormed e n k s    both sides of the sheet s do
 --   fromTo?, stageInRange?, eachStage?, inRange?, allZero?, formedSide?, wellFormed?      whether each of these is so
 use Prim.Native.Nat.{ℕ, _-_, _*_, _^_, _<_, _≤_}
@@ -14,10 +14,10 @@ use mathlib.Core.List.{List, [], _∷_}
 use native.Mathlib.Decide.{ℕ-discrete, decLe}
 use lib.ListN.{length, drop, getD}
 use Rattle.kinds.specs.Decided.{both, through}
+use Rattle.kinds.specs.Search.{eachBelow}
 use Rattle.kinds.specs.Edition.{Edition}
 use Rattle.kinds.specs.Frame.{tickBits}
 use Rattle.bits.specs.Image.{AllBelow, allBelow?}
-use Rattle.kinds.specs.Search.{eachBelow}
 use Rattle.sheet.specs.Sheet.{Stage, Side, addressPlaces, wiringPlaces, countPlace, stagePlaces, sideOf, writePlaces, readPlaces}
 
 pub record FromTo (a b x : ℕ) : Type 0 where

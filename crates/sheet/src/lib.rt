@@ -10,18 +10,18 @@ ghost use Rattle.sheet.specs.Inside.{Whole, Room, Controlled};
 use kinds::Answer;
 use kinds::Refusal;
 
-// The places of edition 1, as 01's table has them; the address columns start at 0.
-pub const WIRING: usize = 10;
+// The places of edition 1, as 01's table has them: address columns from 0 on, then these.
+pub const WIRING: usize = kinds::MOST_N as usize;
 
-pub const COUNT: usize = 15;
+pub const COUNT: usize = WIRING + kinds::MOST_K as usize;
 
-pub const STAGES: usize = 16;
+pub const STAGES: usize = COUNT + 1;
 
-pub const SIDE: usize = 32;
+pub const MOST_STAGES: usize = 8;
 
-pub const SHEET: usize = 64;
+pub const SIDE: usize = STAGES + 2 * MOST_STAGES;
 
-const MOST_STAGES: usize = 8;
+const SHEET: usize = 2 * SIDE;
 
 // 1, 2 and 5. `fits` says whether every other length that the tool was lent is right.
 pub fn check(n: u32, k: u32, sheet: &[u16], fits: bool) -> Answer
@@ -51,22 +51,22 @@ fn side_formed(n: u32, k: u32, side: &[u16]) -> bool
     ensures { λ r. ⌜ Says r (FormedSide edition1 n k (now (side .entry))) ⌝ }
 {
     let t = n - k;
-    let addresses = n as usize;
-    let wiring = WIRING + k as usize;
+    let addresses_end = n as usize;
+    let wiring_end = WIRING + k as usize;
     let count = side[COUNT] as usize;
     if MOST_STAGES < count {
         return false;
     }
-    if !bits::within_bits(&side[0..addresses], t) {
+    if !bits::within_bits(&side[0..addresses_end], t) {
         return false;
     }
-    if !bits::within_bits(&side[addresses..WIRING], 0) {
+    if !bits::within_bits(&side[addresses_end..WIRING], 0) {
         return false;
     }
-    if !bits::within_bits(&side[WIRING..wiring], k) {
+    if !bits::within_bits(&side[WIRING..wiring_end], k) {
         return false;
     }
-    if !bits::within_bits(&side[wiring..COUNT], 0) {
+    if !bits::within_bits(&side[wiring_end..COUNT], 0) {
         return false;
     }
     let ports = bits::two_to(k);
@@ -126,11 +126,11 @@ pub fn price(n: u32, k: u32, sheet: &[u16]) -> Priced
     if let Answer::Refused(refusal) = answer {
         return Priced::Refused(refusal);
     }
-    let write = sheet[COUNT] as usize;
-    let read = sheet[SIDE + COUNT] as usize;
-    let switches = (write as u32 + read as u32) * bits::two_to(k - 1);
-    let write_gates = xor_gates(&sheet[STAGES..SIDE], write);
-    let read_gates = xor_gates(&sheet[SIDE + STAGES..], read);
+    let write_stages = sheet[COUNT] as usize;
+    let read_stages = sheet[SIDE + COUNT] as usize;
+    let switches = (write_stages as u32 + read_stages as u32) * bits::two_to(k - 1);
+    let write_gates = xor_gates(&sheet[STAGES..SIDE], write_stages);
+    let read_gates = xor_gates(&sheet[SIDE + STAGES..], read_stages);
     let multiplexers = MULTIPLEXERS_OF_A_SWITCH * switches;
     let gates = write_gates + read_gates;
     Priced::Costs(Sums {

@@ -1,7 +1,4 @@
 -- Kept positions, and masks read bit by bit over them.
---   keptAt-before      earlier in the list of kept positions is lower
---   units-dual         2^p selects, of the units of the kept positions, the one of p
---   over-bit           bit p of a mask over the kept positions says whether p is selected
 --   sum-by-bits        the kept numbers whose positions are in the mask of number j have number j as their sum
 use Prim.Native.Nat.{ℕ, zero, suc, _^_, _<_}
 use mathlib.Core.Path.{_≡_, sym, ap, _∙_}
@@ -24,7 +21,7 @@ module _ (vs : List ℕ) (i : ℕ) where
   abbrev ps : List ℕ
   ps = keptAt vs i
 
-  pub keptAt-before : (l s : ℕ) → l < s → s < length ps → getD ps l 0 < getD ps s 0
+  keptAt-before : (l s : ℕ) → l < s → s < length ps → getD ps l 0 < getD ps s 0
   keptAt-before l zero h k = absurd (omega arith)
   keptAt-before l (suc s) h k =
       let step = keptAt-ascending vs i s k in
@@ -40,16 +37,22 @@ module _ (vs : List ℕ) (i : ℕ) where
         | no b ↦ omega (arith, e, keptAt-before s l (omega arith) h)
       ]
 
-  pub units-dual : (s : ℕ) → s < length ps → dots (units ps) (2 ^ getD ps s 0) ≡ 2 ^ s
+  -- 2^p selects, of the units of the kept positions, the one of p
+  units-dual : (s : ℕ) → s < length ps → dots (units ps) (2 ^ getD ps s 0) ≡ 2 ^ s
   units-dual s h =
       by-bits (length ps) (dots (units ps) (2 ^ getD ps s 0)) (2 ^ s) (rw length-map at (dots-lt (units ps) (2 ^ getD ps s 0))) (pow-lt h)
-      (λ l k. dots-bit (units ps) (2 ^ getD ps s 0) l (rw length-map k) ∙ ap (λ (u : ℕ). dot u (2 ^ getD ps s 0)) (units-at ps l k) ∙ dot-unit (getD ps s 0) (2 ^ getD ps l 0) ∙ at l k (ℕ-discrete l s))
+      (λ l k.
+      dots-bit (units ps) (2 ^ getD ps s 0) l (rw length-map k)
+      ∙ ap (λ (u : ℕ). dot u (2 ^ getD ps s 0)) (units-at ps l k)
+      ∙ dot-unit (getD ps s 0) (2 ^ getD ps l 0)
+      ∙ at l k (ℕ-discrete l s))
     where
       at : (l : ℕ) → l < length ps → Dec (l ≡ s) → bit (getD ps s 0) (2 ^ getD ps l 0) ≡ bit l (2 ^ s)
       at l k (yes e) = rw e (bit-same (getD ps s 0) ∙ sym (bit-same s))
       at l k (no ne) = bit-other (getD ps s 0) (getD ps l 0) (λ e. apart l s k h ne (sym e)) ∙ sym (bit-other l s ne)
 
-  pub over-bit : (s y : ℕ) → s < length ps → bit (getD ps s 0) (over ps y) ≡ bit s y
+  -- bit p of a mask over the kept positions says whether p is selected
+  over-bit : (s y : ℕ) → s < length ps → bit (getD ps s 0) (over ps y) ≡ bit s y
   over-bit s y h =
       sym (dot-unit (getD ps s 0) (over ps y)) ∙ dot-image (units ps) y (2 ^ getD ps s 0) ∙ ap (dot y) (units-dual s h) ∙ dot-unit s y
 

@@ -19,10 +19,10 @@ use Rattle.maps.proofs.after_stages.Tie as tie
 
 record Switching (l : List ℕ) (c b₀ b s : ℕ) : Type 0 where
   room : length l ≡ openWidth
-  within : s ≤ 8
+  within : s ≤ openStages
   bank : b ≡ afterStages (stagesIn s l) c b₀
 
-module _ {l : List ℕ} {c b₀ b s : ℕ} (next : ℕ) (i : Switching l c b₀ b s) (h : s < 8) where
+module _ {l : List ℕ} {c b₀ b s : ℕ} (next : ℕ) (i : Switching l c b₀ b s) (h : s < openStages) where
   more : next ≡ switched (stageAt l s) c b → Switching l c b₀ next (s + 1)
   more e = record { room = i .room; within = omega arith; bank = e ∙ ap (switched (stageAt l s) c) (i .bank) ∙ sym (after-more s l c b₀) }
 
@@ -36,14 +36,14 @@ module _ {l : List ℕ} {c b₀ b s : ℕ} (next : ℕ) (i : Switching l c b₀ 
       let even : dot (stageAt l s .control) c ≡ 0 = omega (arith, dot-lt (stageAt l s .control) c) in
       more (rw even (e ∙ sym (xor-zero-r b)))
 
-done : {l : List ℕ} {c b₀ b s : ℕ} → Switching l c b₀ b s → 8 ≤ s → b ≡ afterStages (stagesIn openStages l) c b₀
+done : {l : List ℕ} {c b₀ b s : ℕ} → Switching l c b₀ b s → openStages ≤ s → b ≡ afterStages (stagesIn openStages l) c b₀
 done {l} {c} {b₀} i end = i .bank ∙ ap (λ (s : ℕ). afterStages (stagesIn s l) c b₀) (omega arith)
 
 abbrev Inv-loop : tie.InvT-loop
 Inv-loop stages tick b₀ s₀ b s = Switching stages (tick .0) b₀ b s
 
 abbrev μ-loop : tie.MeasureT-loop
-μ-loop stages tick b₀ s₀ b s = 8 - s
+μ-loop stages tick b₀ s₀ b s = openStages - s
 
 loop-holds : tie.Need-loop-holds Inv-loop μ-loop
 loop-holds c = record { room = c .before .pre; within = omega arith; bank = sym (after-none _ _ _) }

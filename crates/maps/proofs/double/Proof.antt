@@ -1,4 +1,4 @@
--- `maps::double` meets its contract. The invariant: below filled nothing has changed, and from there on p places are what they are to be.
+-- `maps::double` meets its contract. The invariant: p places from filled on are what they are to be, and no others have changed.
 use Prim.Native.Nat.{ℕ, _+_, _-_, _*_, _≤_, _<_}
 use mathlib.Core.Path.{_≡_, refl, ap, _∙_}
 use mathlib.Core.List.{List}
@@ -17,9 +17,10 @@ record Doubling (m v : ℕ) (l r : List ℕ) (p : ℕ) : Type 0 where
   same : length r ≡ length l
   low : (q : ℕ) → q < m → getD r q 0 ≡ getD l q 0
   high : (q : ℕ) → q < p → getD r (m + q) 0 ≡ bitXor (getD l q 0) v
+  rest : (q : ℕ) → 2 * m ≤ q → getD r q 0 ≡ getD l q 0
 
 start : {m v : ℕ} {l : List ℕ} → 2 * m ≤ length l → Doubling m v l l 0
-start fits = record { fits = fits; same = refl; low = λ q h. refl; high = below-none _ }
+start fits = record { fits = fits; same = refl; low = λ q h. refl; high = below-none _; rest = λ q h. refl }
 
 module _ {m v : ℕ} {l r : List ℕ} {p : ℕ} (i : Doubling m v l r p) where
   more : p < m → Doubling m v l (set r (m + p) (bitXor (getD r p 0) v)) (p + 1)
@@ -32,10 +33,11 @@ module _ {m v : ℕ} {l r : List ℕ} {p : ℕ} (i : Doubling m v l r p) where
         high =
             below-more _ p (λ q k. getD-set-other r (m + p) (m + q) new 0 (λ e. omega arith) ∙ i .high q k)
             (getD-set-same r (m + p) new 0 (omega (arith, i .same)) ∙ ap (λ (x : ℕ). bitXor x v) (i .low p h));
+        rest = λ q k. getD-set-other r (m + p) q new 0 (λ e. omega arith) ∙ i .rest q k;
       }
 
   done : m ≤ p → Doubled m v l r
-  done end = record { same = i .same; low = i .low; high = λ q h. i .high q (omega arith) }
+  done end = record { same = i .same; low = i .low; high = λ q h. i .high q (omega arith); rest = i .rest }
 
 abbrev Inv-loop : tie.InvT-loop
 Inv-loop cells₀ filled column p₀ cells p = Doubling filled column cells₀ cells p

@@ -9,10 +9,11 @@ use lib.Seq.{length-take-le}
 use Rattle.kinds.specs.Edition.{edition1, sidePlaces, Sized}
 use Rattle.sheet.specs.Sheet.{addressPlaces, wiringPlaces, countPlace, stagePlaces, stagesIn, sideOf}
 use Rattle.sheet.specs.Layout.{FormedSide}
+use Rattle.sheet.proofs.StageLaws.{stages-length}
 use Rattle.sheet.proofs.PlaceLaws.{last-part}
 use Rattle.maps.specs.Opened.{padded, flat, Shows}
 use Rattle.maps.specs.declared.OpenSide.{OpenSide}
-use Rattle.maps.proofs.OpenLaws.{padded-used, flat-part, stages-length}
+use Rattle.maps.proofs.OpenLaws.{padded-used, flat-part}
 use Rattle.maps.proofs.open_side.Statement.{statement}
 use Rattle.maps.proofs.open_side.Tie as tie
 
@@ -53,64 +54,64 @@ module _ (k : ℕ) (l : List ℕ) (whole : length l ≡ sidePlaces edition1) (n 
           → _≡_ {A = OpenSide} (record { k = k; addresses = a; wiring = b; stages = c }) (record { k = k; addresses = x; wiring = y; stages = z })
       is e f g = cc
 
-sub-sixteen : tie.Need-sub-sixteen
-sub-sixteen c = search needs
+sub-padded : tie.Need-sub-padded
+sub-padded c = search needs
 
-part-sixteen-start : tie.Need-part-sixteen-start
-part-sixteen-start c = search needs
+part-padded-start : tie.Need-part-padded-start
+part-padded-start c = search needs
 
-part-sixteen-end : tie.Need-part-sixteen-end
-part-sixteen-end c = search needs
+part-padded-end : tie.Need-part-padded-end
+part-padded-end c = search needs
 
-sixteen-requires : tie.Need-sixteen-requires
-sixteen-requires c κs = search needs
+padded-requires : tie.Need-padded-requires
+padded-requires c κs = search needs
 
-sub-sixteen-2 : tie.Need-sub-sixteen-2
-sub-sixteen-2 c = search needs
+sub-padded-2 : tie.Need-sub-padded-2
+sub-padded-2 c = search needs
 
-part-sixteen-start-2 : tie.Need-part-sixteen-start-2
-part-sixteen-start-2 c = search needs
+part-padded-start-2 : tie.Need-part-padded-start-2
+part-padded-start-2 c = search needs
 
-part-sixteen-end-2 : tie.Need-part-sixteen-end-2
-part-sixteen-end-2 c = search needs
+part-padded-end-2 : tie.Need-part-padded-end-2
+part-padded-end-2 c = search needs
 
-sixteen-requires-2 : tie.Need-sixteen-requires-2
-sixteen-requires-2 c κs = search needs
+padded-requires-2 : tie.Need-padded-requires-2
+padded-requires-2 c κs = search needs
 
-sub-sixteen-3 : tie.Need-sub-sixteen-3
-sub-sixteen-3 c = search needs
+sub-padded-3 : tie.Need-sub-padded-3
+sub-padded-3 c = search needs
 
-part-sixteen-start-3 : tie.Need-part-sixteen-start-3
-part-sixteen-start-3 c = search needs
+part-padded-start-3 : tie.Need-part-padded-start-3
+part-padded-start-3 c = search needs
 
-part-sixteen-end-3 : tie.Need-part-sixteen-end-3
-part-sixteen-end-3 c = search needs
+part-padded-end-3 : tie.Need-part-padded-end-3
+part-padded-end-3 c = search needs
 
-sixteen-requires-3 : tie.Need-sixteen-requires-3
-sixteen-requires-3 c κs = search needs
+padded-requires-3 : tie.Need-padded-requires-3
+padded-requires-3 c κs = search needs
 
 returns : tie.Need-returns
 returns c =
     let start = c .before .before .before .before .before .before .before in
     let l = start .args .side .now in
     λ n sized formed.
-    shows (start .args .k) l (start .pre) n sized formed (c .before .before .before .before .sixteen .ensures) (c .before .before .sixteen2 .ensures)
-    (c .sixteen3 .ensures ∙ ap padded (last-part l 0 16))
+    shows (start .args .k) l (start .pre) n sized formed (c .before .before .before .before .padded .ensures) (c .before .before .padded2 .ensures)
+    (c .padded3 .ensures ∙ ap padded (last-part l 0 16))
 
 pub open-side-spec : {M : Type 1} → statement M
 open-side-spec =
     tie.close
     (tie.spec
-    sub-sixteen
-    part-sixteen-start
-    part-sixteen-end
-    sixteen-requires
-    sub-sixteen-2
-    part-sixteen-start-2
-    part-sixteen-end-2
-    sixteen-requires-2
-    sub-sixteen-3
-    part-sixteen-start-3
-    part-sixteen-end-3
-    sixteen-requires-3
+    sub-padded
+    part-padded-start
+    part-padded-end
+    padded-requires
+    sub-padded-2
+    part-padded-start-2
+    part-padded-end-2
+    padded-requires-2
+    sub-padded-3
+    part-padded-start-3
+    part-padded-end-3
+    padded-requires-3
     returns)

@@ -99,23 +99,23 @@ returns c = refused-by (said-lowest (c .before .before .before) ∙ ap said (c .
 enum-told : tie.Need-enum-told
 enum-told c = search needs
 
-shared-slice-read-write : tie.Need-shared-slice-read-write
-shared-slice-read-write c = omega (arith, places (c .before))
+shared-slice-read-write-stages : tie.Need-shared-slice-read-write-stages
+shared-slice-read-write-stages c = omega (arith, places (c .before))
 
-cast-write : tie.Need-cast-write
-cast-write c = fits-widen tt (c .shared-slice-known2 .given _)
+cast-write-stages : tie.Need-cast-write-stages
+cast-write-stages c = fits-widen tt (c .shared-slice-known2 .given _)
 
-add-read : tie.Need-add-read
-add-read c = search needs
+add-read-stages : tie.Need-add-read-stages
+add-read-stages c = search needs
 
-mul-read : tie.Need-mul-read
-mul-read c = search needs
+mul-read-stages : tie.Need-mul-read-stages
+mul-read-stages c = search needs
 
-shared-slice-read-read : tie.Need-shared-slice-read-read
-shared-slice-read-read c = omega (arith, places (c .before .before))
+shared-slice-read-read-stages : tie.Need-shared-slice-read-read-stages
+shared-slice-read-read-stages c = omega (arith, places (c .before .before))
 
-cast-read : tie.Need-cast-read
-cast-read c = fits-widen tt (c .shared-slice-known3 .given _)
+cast-read-stages : tie.Need-cast-read-stages
+cast-read-stages c = fits-widen tt (c .shared-slice-known3 .given _)
 
 cast-switches : tie.Need-cast-switches
 cast-switches c = fits-widen tt (c .shared-slice-known3 .given _)
@@ -236,12 +236,12 @@ price-spec =
     enum-known-answer
     returns
     enum-told
-    shared-slice-read-write
-    cast-write
-    add-read
-    mul-read
-    shared-slice-read-read
-    cast-read
+    shared-slice-read-write-stages
+    cast-write-stages
+    add-read-stages
+    mul-read-stages
+    shared-slice-read-read-stages
+    cast-read-stages
     cast-switches
     cast-switches-2
     add-switches

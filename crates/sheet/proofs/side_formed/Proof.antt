@@ -22,8 +22,8 @@ use Rattle.sheet.proofs.side_formed.Tie as tie
 sub-t : tie.Need-sub-t
 sub-t c = search needs
 
-add-wiring : tie.Need-add-wiring
-add-wiring c = search needs
+add-wiring-end : tie.Need-add-wiring-end
+add-wiring-end c = search needs
 
 shared-slice-read-count : tie.Need-shared-slice-read-count
 shared-slice-read-count c = search needs
@@ -238,7 +238,7 @@ side-formed-spec =
     tie.close
     (tie.spec
     sub-t
-    add-wiring
+    add-wiring-end
     shared-slice-read-count
     cast-count
     returns

@@ -5,10 +5,10 @@ use borrow.Author.Needs.{needs}
 use lib.ListN.{length}
 use Rattle.kinds.specs.Frame.{wordAt}
 use Rattle.bits.specs.Image.{image}
-use Rattle.bits.proofs.ImageLaws.{image-mod}
+use Rattle.bits.proofs.ImageLaws.{image-mod, same-image}
 use Rattle.maps.specs.Opened.{openWidth, IsAddress}
 use Rattle.maps.specs.declared.OpenSide.{OpenSide}
-use Rattle.maps.proofs.OpenLaws.{same-image, shown-k, shown-addresses}
+use Rattle.maps.proofs.OpenLaws.{shown-k, shown-addresses}
 use Rattle.maps.proofs.OpenSide.address.Statement.{statement}
 use Rattle.maps.proofs.OpenSide.address.Tie as tie
 

@@ -1,4 +1,4 @@
--- `maps::OpenSide::bank` meets its contract. The held side's wiring and stages make the same of every number.
+-- `maps::OpenSide::bank` meets its contract. The shown side's wiring and stages make the same of every number.
 use borrow.Author.Needs.{needs}
 use Rattle.bits.specs.Image.{image}
 use Rattle.maps.proofs.OpenLaws.{is-bank}

@@ -1,4 +1,4 @@
--- `maps::OpenSide::cell` meets its contract. A cell of a held side is a number of sixteen bits.
+-- `maps::OpenSide::cell` meets its contract. A cell of a shown side is a number of sixteen bits.
 use borrow.Author.Needs.{needs}
 use Rattle.maps.proofs.OpenLaws.{is-cell}
 use Rattle.maps.proofs.OpenSide.cell.Statement.{statement}

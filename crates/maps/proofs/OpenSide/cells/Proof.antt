@@ -73,13 +73,13 @@ module _ {o : OpenSide} {out₀ out : List ℕ} {filled j : ℕ} (i : Listing o 
   }
     where
       upper : (c : ℕ) → IsCell o c 0 (getD out₀ 0 0) → (p : ℕ) → p < 2 * filled → ¬ (p < filled) → IsCell o c p (getD next p 0)
-      upper c first p l high n k S held =
+      upper c first p l high n k S shows =
           let q = p - filled in
           let inside : q < filled = omega arith in
           ap (λ (x : ℕ). getD next x 0) {x = p} {y = filled + q} (omega arith)
           ∙ doubled .high q inside
-          ∙ ap₂ bitXor (i .each c first q inside n k S held) (column n k S held (omega (arith, bits-left, shown-k held, held .ports, held .words)))
-          ∙ sym (cell-double (held .used) c q j (omega (arith, bits-left, shown-k held)) (omega (arith, inside, i .power)))
+          ∙ ap₂ bitXor (i .each c first q inside n k S shows) (column n k S shows (omega (arith, bits-left, shown-k shows, shows .ports, shows .words)))
+          ∙ sym (cell-double (shows .used) c q j (omega (arith, bits-left, shown-k shows)) (omega (arith, inside, i .power)))
           ∙ ap (cellAt k S c) {x = 2 ^ j + q} {y = p} (omega (arith, i .power))
 
 right : {o : OpenSide} {came out : List ℕ} {first filled j : ℕ} (c : ℕ) → Listing o (set came 0 first) out filled j → length out ≤ filled
@@ -154,7 +154,10 @@ loop-less : tie.Need-loop-less Inv-loop μ-loop
 loop-less c = let i = c .before .before .before .before .before .before in omega (arith, i .loop .inv .same, i .loop .inv .power, pow-pos (i .loop .j))
 
 loop-again : tie.Need-loop-again Inv-loop μ-loop
-loop-again c = more (c .before .before .before .before .before .before .loop .inv) (c .before .before .before .before .before .loop-test .taken) (c .before .before .before .before .column .ensures) (c .before .before .double .ensures)
+loop-again c =
+    let doubled = c .before .before in
+    let loop = doubled .before .before .before .before in
+    more (loop .loop .inv) (c .before .before .before .before .before .loop-test .taken) (doubled .before .before .column .ensures) (doubled .double .ensures)
 
 same-length : tie.Need-same-length Inv-loop μ-loop
 same-length c = c .before .loop .inv .same ∙ length-set (begin (c .before .before) .args .out .now) 0 (c .before .before .cell-number .result)

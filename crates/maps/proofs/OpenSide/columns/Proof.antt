@@ -1,4 +1,4 @@
--- `maps::OpenSide::columns` meets its contract. The invariant: for whichever side is held, the first j columns are those of its map.
+-- `maps::OpenSide::columns` meets its contract. The invariant: for whichever side is shown, the first j columns are those of its map.
 use Prim.Native.Nat.{ℕ, _+_, _-_, _^_, _≤_, _<_}
 use mathlib.Core.Path.{_≡_, sym, _∙_}
 use mathlib.Core.List.{List}

@@ -1,4 +1,4 @@
--- `maps::sixteen` meets its contract. The invariant: the first j numbers are the part's, and the rest are zeros.
+-- `maps::padded` meets its contract. The invariant: the first j numbers are the part's, and the rest are zeros.
 use Prim.Native.Nat.{ℕ, _+_, _-_, _≤_, _<_}
 use mathlib.Core.Path.{_≡_, sym, _∙_}
 use mathlib.Core.List.{List}
@@ -10,8 +10,8 @@ use lib.ListN.{length, getD, set, replicate, length-set, length-replicate, List�
 use lib.Seq.{getD-set-same, getD-set-other}
 use Rattle.maps.specs.Opened.{openWidth, padded}
 use Rattle.maps.proofs.OpenLaws.{zeros-at, padded-unique}
-use Rattle.maps.proofs.sixteen.Statement.{statement}
-use Rattle.maps.proofs.sixteen.Tie as tie
+use Rattle.maps.proofs.padded.Statement.{statement}
+use Rattle.maps.proofs.padded.Tie as tie
 
 record Copied (part numbers : List ℕ) (j : ℕ) : Type 0 where
   few : length part ≤ openWidth
@@ -74,8 +74,8 @@ loop-again c = more (c .before .before .loop .inv) (c .before .loop-test .taken)
 returns : tie.Need-returns Inv-loop μ-loop
 returns c = done (c .before .loop .inv) (c .loop-test .left)
 
-pub sixteen-spec : {M : Type 1} → statement M
-sixteen-spec =
+pub padded-spec : {M : Type 1} → statement M
+padded-spec =
     tie.close
     (tie.spec
     Inv-loop

@@ -7,7 +7,8 @@
 --   bank-of-cell, address-of-cell   a cell number has the bank and the address of the word that is there
 --   cell-word           the cell of the word at a tick and port is the map's
 --   cell-linear         a side's map is linear
---   cell-columns        so it is the image under its columns
+--   maps-linear         so M and N are, of a sheet that keeps the layout
+--   cell-columns        being linear, a side's map is the image under its columns
 --   cell-bijection      it is a bijection of the words and the cells exactly when its columns are independent
 --   wiring-part         its port-to-bank part is the wiring
 --   stages-part         its tick-to-bank part is the stages'
@@ -24,6 +25,7 @@ use lib.Arith.{digits-lt}
 use lib.Bits.{bitXor, xor-zero-r, xor-comm, xor-lt, xor-block, xor-shr, xor-mod}
 use lib.ListN.{length, getD}
 use lib.Pow.{pow-pos, pow-lt, pow-mono, pow-add, lt-of-le-ones, split, high, low}
+use Rattle.kinds.specs.Edition.{Edition}
 use Rattle.kinds.specs.Frame.{tickBits, tickOf, portOf, wordAt, addressOf, bankOf}
 use Rattle.bits.specs.Image.{chosen, image, AllBelow, Linear}
 use Rattle.bits.specs.Parity.{dot}
@@ -37,9 +39,9 @@ use Rattle.span.proofs.RowLaws.{dots-cons, dots-xor}
 use Rattle.span.proofs.Counting.{bijection-same}
 use Rattle.span.proofs.SumLaws.{independent-bijection, bijection-independent}
 use Rattle.sheet.specs.Sheet.{Stage, Side}
-use Rattle.sheet.specs.Layout.{StageInRange, EachStage, InRange}
+use Rattle.sheet.specs.Layout.{StageInRange, EachStage, InRange, WellFormed}
 use Rattle.maps.specs.Stages.{directions, controls, selected}
-use Rattle.maps.specs.Cells.{addressAt, afterStages, bankAt, cellAt, cellOf, cellColumns, portToBank, tickToBank}
+use Rattle.maps.specs.Cells.{addressAt, afterStages, bankAt, cellAt, cellOf, M, N, cellColumns, portToBank, tickToBank}
 
 pub after-append : (ss ts : List Stage) (c b : ℕ) → afterStages (ss ++ ts) c b ≡ afterStages ts c (afterStages ss c b)
 unfolding afterStages
@@ -201,3 +203,6 @@ module _ {n k : ℕ} {S : Side} (used : InRange n k S) where
       ∙ ap (cellOf k S) (one-bit-more k c p j below l)
       ∙ cell-linear (wordAt k c p) (2 ^ j)
       ∙ ap (λ (x : ℕ). bitXor x (cellOf k S (2 ^ j))) (sym (cell-word k S c p (omega (arith, below))))
+
+pub maps-linear : {e : Edition} {n k : ℕ} {s : List ℕ} → WellFormed e n k s → Linear (M e n k s) × Linear (N e n k s)
+maps-linear formed = (cell-linear (formed .write .used), cell-linear (formed .read .used))

@@ -186,7 +186,7 @@ fn after_stages(stages: &[u16], tick: Tick, bank: Bank) -> Bank
     Bank(b)
 }
 
-// "Word number i enters at tick c = i / 2^k, port p = i mod 2^k" (01); its lower 16 bits, which columns look at.
+// "Word number i enters at tick c = i / 2^k (whole part), port p = i mod 2^k" (01): of i the lower 16 bits, which columns look at.
 fn word_number(tick: Tick, port: Port, k: u32) -> u16
     ensures { λ r. ⌜ r ≡ wordAt k (tick .0) (port .0) % 2 ^ openWidth ⌝ }
 {

@@ -1,10 +1,10 @@
--- The words of a frame (01, 'Orders, ticks and ports'): 2^n of them, 2^k on each tick, and t = n - k, so 2^t ticks.
+-- The words of a frame (01, 'Orders, ticks and ports'): 2^n of them, 2^k on each tick, and t = n - k, so 2^t ticks. And the cells they stand in.
 --   tickBits n k    t, the bits of a tick
 --   tickOf k i      the tick of word i, or of place i: "c = i / 2^k (whole part)"
 --   portOf k i      its port: "p = i mod 2^k"
 --   wordAt k c p    the number of the word at tick c, port p
---   addressOf k x   the address of cell x, and
---   bankOf k x      its bank: "the cell number is address*2^k + bank" (01, 'What a sheet holds')
+--   addressOf k x   the address of cell x: "the cell number is address*2^k + bank" (01, 'What a sheet holds')
+--   bankOf k x      its bank
 use Prim.Native.Nat.{ℕ, _+_, _-_, _*_, _/_, _%_, _^_}
 
 abbrev pub tickBits : ℕ → ℕ → ℕ

@@ -104,6 +104,7 @@ fn stages_formed(stages: &[u16], count: usize, ports: u32, ticks: u32) -> bool
     true
 }
 
+// The three sums of a price; the gates are the xor gates of the controls.
 pub struct Sums {
     pub switches: u32,
     pub multiplexers: u32,

@@ -7,7 +7,6 @@ use native.Mathlib.Omega.{arith}
 use borrow.Author.Needs.{needs}
 use borrow.Author.Tests.{not-true, not-false}
 use lib.ListN.{length, length-take, length-drop}
-use lib.Seq.{length-take-le}
 use Rattle.kinds.specs.Edition.{edition1, Sized, sheetPlaces}
 use Rattle.kinds.specs.Reasons.{RightLengths}
 use Rattle.kinds.specs.Answers.{Says, Checks}
@@ -97,7 +96,7 @@ part-side-formed-end c = search needs
 
 side-formed-requires : tie.Need-side-formed-requires
 side-formed-requires c κs =
-    record { sized = sized (c .before .before .before); places = length-take-le 32 (s (start3 (c .before))) (omega (arith, c .before .if3 .left)) }
+    record { sized = sized (c .before .before .before); places = simp (length-take, length-drop) (omega (arith, c .before .if3 .left)) }
 
 returns-4 : tie.Need-returns-4
 returns-4 c =

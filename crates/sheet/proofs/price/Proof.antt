@@ -54,10 +54,14 @@ module _ {x y : ℕ} (f : Fits w16 x) (g : Fits w16 y) where
   sum-fits : Fits w32 (x + y)
   sum-fits = omega arith
 
+  few : (p : ℕ) → p ≤ 2 ^ 4 → (x + y) * p ≤ 2 ^ 17 * 2 ^ 4
+  few p h = let both : x + y ≤ 2 ^ 17 = omega arith in mul-le-mul both h
+
   switches-fit : {p : ℕ} → p ≤ 2 ^ 4 → Fits w32 ((x + y) * p)
-  switches-fit {p} h =
-      let both : x + y ≤ 2 ^ 17 = omega arith in
-      omega (arith, mul-le-mul both h)
+  switches-fit {p} h = omega (arith, few p h)
+
+  multiplexers-fit : {m p : ℕ} → m ≤ 2 → p ≤ 2 ^ 4 → Fits w32 (m * ((x + y) * p))
+  multiplexers-fit {m} {p} l h = omega (arith, mul-le-mul l (few p h))
 
 -- the check's answer, whatever it is
 module _ (c : tie.After-check) where
@@ -187,7 +191,7 @@ mul-multiplexers : tie.Need-mul-multiplexers
 mul-multiplexers c =
     let powered = c .before .before .before .before in
     let known = powered .before .shared-slice-known3 .given in
-    omega (arith, switches-fit (known 15) (known 47) (ports powered))
+    multiplexers-fit (known _) (known _) (omega arith) (ports powered)
 
 gates-fit : {n k : ℕ} {l : List ℕ} → Sized edition1 n k → FormedSide edition1 n k l → total xorGates (sideOf edition1 n k l .stages) ≤ 15 * 8
 gates-fit {n} {k} {l} sized formed =

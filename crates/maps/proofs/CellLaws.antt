@@ -14,6 +14,7 @@
 --   stages-part         its tick-to-bank part is the stages'
 --   stages-made         stages that make up each column of a linear map of tick bits make up the map
 --   port-column, tick-column    the columns of a side's map, one by one
+--   column-beyond       beyond the nth they would be 0
 --   cell-double         one port bit more: one exclusive or
 use Prim.Native.Nat.{ℕ, zero, suc, _+_, _-_, _*_, _/_, _%_, _^_, _<_, _≤_}
 use mathlib.Core.Path.{_≡_, refl, sym, ap, ap₂, _∙_}
@@ -23,14 +24,14 @@ use native.Mathlib.Nat.{pow-suc, mod-eq-of-lt, div-eq-of-lt}
 use native.Mathlib.Omega.{arith}
 use lib.Arith.{digits-lt}
 use lib.Bits.{bitXor, xor-zero-r, xor-comm, xor-lt, xor-block, xor-shr, xor-mod}
-use lib.ListN.{length, getD}
+use lib.ListN.{length, getD, List·getD-eq-default}
 use lib.Pow.{pow-pos, pow-lt, pow-mono, pow-add, lt-of-le-ones, split, high, low}
 use Rattle.kinds.specs.Edition.{Edition}
 use Rattle.kinds.specs.Frame.{tickBits, tickOf, portOf, wordAt, addressOf, bankOf}
 use Rattle.bits.specs.Image.{chosen, image, AllBelow, Linear}
 use Rattle.bits.specs.Parity.{dot}
 use Rattle.bits.proofs.XorLaws.{xor-above, xor-assoc, xor-swap, xor-cancel}
-use Rattle.bits.proofs.ParityLaws.{dot-lt}
+use Rattle.bits.proofs.ParityLaws.{dot-lt, dot-unit}
 use Rattle.bits.proofs.ImageLaws.{image-nil, image-cons, image-zero, image-xor, image-unit, image-lt, linear-image, linear-agree, linear-zero, columns-length, columns-below}
 use Rattle.span.specs.Maps.{Bijection}
 use Rattle.span.specs.Sums.{Independent}
@@ -107,6 +108,13 @@ directions-below : (k t : ℕ) (ss : List Stage) → EachStage (StageInRange (2 
 directions-below k t [] each j h = absurd (omega arith)
 directions-below k t (s ∷ ss) each zero h = lt-of-le-ones k (each .0 .direction .most)
 directions-below k t (s ∷ ss) each (suc j) h = directions-below k t ss (each .1) j (omega arith)
+
+selected-beyond : (b t m : ℕ) (ss : List Stage) → EachStage (StageInRange b (2 ^ t)) ss → t ≤ m → selected ss (2 ^ m) ≡ 0
+selected-beyond b t m [] each h = image-nil (dots [] (2 ^ m))
+selected-beyond b t m (s ∷ ss) each h =
+    let small : s .control < 2 ^ m = omega (arith, lt-of-le-ones t (each .0 .control .most), pow-mono {i = t} {j = m} h) in
+    let even : dot (s .control) (2 ^ m) ≡ 0 = dot-unit m (s .control) ∙ ap (λ (x : ℕ). x % 2) (div-eq-of-lt small) in
+    selected-cons s ss (2 ^ m) ∙ rw even (selected-beyond b t m ss (each .1) h)
 
 module _ (k : ℕ) (S : Side) where
   pub cell-word : (c p : ℕ) → p < 2 ^ k → cellAt k S c p ≡ cellOf k S (wordAt k c p)
@@ -194,6 +202,12 @@ module _ {n k : ℕ} {S : Side} (used : InRange n k S) where
 
       below : AllBelow (2 ^ n) (cellColumns n k S)
       below = columns-below n (2 ^ n) (cellOf k S) (λ j h. cell-lt within (tickOf k (2 ^ j)) (portOf k (2 ^ j)))
+
+  pub column-beyond : k ≤ n → length (S .addresses) ≡ n → (j : ℕ) → n ≤ j → cellOf k S (2 ^ j) ≡ 0
+  column-beyond within count j h =
+      let address : getD (S .addresses) j 0 ≡ 0 = List·getD-eq-default (S .addresses) 0 (omega arith) in
+      let bank : afterStages (S .stages) (2 ^ (j - k)) 0 ≡ 0 = stages-sum (S .stages) (2 ^ (j - k)) 0 ∙ selected-beyond (2 ^ k) (tickBits n k) (j - k) (S .stages) (used .stages) (omega arith) in
+      tick-column k S j (omega arith) ∙ rw (address, bank) (omega arith)
 
   pub cell-double : (c p j : ℕ) → j < k → p < 2 ^ j → cellAt k S c (2 ^ j + p) ≡ bitXor (cellAt k S c p) (cellOf k S (2 ^ j))
   cell-double c p j h l =

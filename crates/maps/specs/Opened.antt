@@ -9,7 +9,7 @@
 --   IsAddress o c p r            r is the address of the word at tick c, port p, on whichever side o shows
 --   IsBank o c p r               r is its bank
 --   IsCell o c p r               r is its cell
---   AreColumns o r               r is the first openWidth columns of that side's map
+--   AreColumns o r               r is the columns of that side's map, and zeros after them
 --   CellsOfTick k S c l          l is the cells of tick c, by port
 --   ListsCells o c out out' r    all cells of one tick into a lent buffer, which has 2^k places or is refused: done, out' is these; refused, out as it came
 use Prim.Native.Nat.{ℕ, _-_, _^_, _<_, _≤_}
@@ -24,11 +24,10 @@ use Rattle.kinds.specs.Answers.{Checks, Answers}
 use Rattle.kinds.specs.declared.Answer.{Answer}
 use Rattle.kinds.specs.declared.Answer.the-variants.{Done, Refused}
 use Rattle.kinds.specs.declared.Refusal.{Refusal}
-use Rattle.bits.specs.Image.{columns}
 use Rattle.sheet.specs.Sheet.{Stage, Side, writeSide, readSide}
 use Rattle.sheet.specs.Layout.{InRange}
 use Rattle.sheet.specs.Table.{sheetTable}
-use Rattle.maps.specs.Cells.{addressAt, bankAt, cellAt, cellOf}
+use Rattle.maps.specs.Cells.{addressAt, bankAt, cellAt, cellColumns}
 use Rattle.maps.specs.declared.OpenSide.{OpenSide}
 use Rattle.maps.specs.declared.Opened.{Opened}
 
@@ -76,7 +75,7 @@ abbrev pub IsCell : OpenSide → ℕ → ℕ → ℕ → Type 0
 IsCell o c p r = (n k : ℕ) (S : Side) → Shows n k o S → r ≡ cellAt k S c p
 
 abbrev pub AreColumns : OpenSide → List ℕ → Type 0
-AreColumns o r = (n k : ℕ) (S : Side) → Shows n k o S → r ≡ columns openWidth (cellOf k S)
+AreColumns o r = (n k : ℕ) (S : Side) → Shows n k o S → r ≡ padded (cellColumns n k S)
 
 pub record CellsOfTick (k : ℕ) (S : Side) (c : ℕ) (l : List ℕ) : Type 0 where
   pub whole : length l ≡ 2 ^ k

@@ -115,7 +115,7 @@ impl OpenSide {
         cell_number(address, bank, self.k)
     }
 
-    // The first 16 columns of the side's map.
+    // The columns of the side's map, and zeros after them.
     pub fn columns(self) -> [u16; WIDTH]
         ensures { λ r. ⌜ AreColumns self r ⌝ }
     {

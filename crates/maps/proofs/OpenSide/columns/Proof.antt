@@ -2,18 +2,20 @@
 use Prim.Native.Nat.{ℕ, _+_, _-_, _^_, _≤_, _<_}
 use mathlib.Core.Path.{_≡_, sym, _∙_}
 use mathlib.Core.List.{List}
+use native.Mathlib.Decide.{decLt}
 use native.Mathlib.Omega.{arith}
 use borrow.Author.Count.{below-none, below-more}
 use borrow.Author.Needs.{needs}
-use lib.ListN.{length, getD, set, replicate, length-set, length-replicate}
-use lib.Seq.{getD-set-same, getD-set-other, ext-getD}
-use Rattle.bits.specs.Image.{columns}
+use lib.ListN.{length, getD, set, replicate, length-set, length-replicate, List·getD-eq-default}
+use lib.Seq.{getD-set-same, getD-set-other}
 use Rattle.bits.proofs.ImageLaws.{columns-length, columns-at}
 use Rattle.sheet.specs.Sheet.{Side}
-use Rattle.maps.specs.Cells.{cellOf}
+use Rattle.maps.specs.Cells.{cellOf, cellColumns}
 use Rattle.maps.specs.Opened.{openWidth, Shows, AreColumns}
 use Rattle.maps.specs.Inside.{IsColumn}
 use Rattle.maps.specs.declared.OpenSide.{OpenSide}
+use Rattle.maps.proofs.CellLaws.{column-beyond}
+use Rattle.maps.proofs.OpenLaws.{padded-unique}
 use Rattle.maps.proofs.OpenSide.columns.Statement.{statement}
 use Rattle.maps.proofs.OpenSide.columns.Tie as tie
 
@@ -34,9 +36,21 @@ module _ {o : OpenSide} {r : List ℕ} {j : ℕ} (i : Filling o r j) where
   }
 
   done : openWidth ≤ j → AreColumns o r
-  done end n k S h =
-      ext-getD 0 r (columns openWidth (cellOf k S)) (i .whole ∙ sym (columns-length openWidth (cellOf k S)))
-      (λ l m. i .each n k S h l (omega arith) ∙ sym (columns-at openWidth (cellOf k S) l (omega arith)))
+  done end n k S h = padded-unique C r (omega (arith, count, h .words)) (i .whole) (λ l. place l (decLt l n) (decLt l openWidth))
+    where
+      C : List ℕ
+      C = cellColumns n k S
+
+      count : length C ≡ n
+      count = columns-length n (cellOf k S)
+
+      beyond : (l : ℕ) → n ≤ l → getD C l 0 ≡ 0
+      beyond l b = List·getD-eq-default C 0 (omega (arith, count))
+
+      place : (l : ℕ) → Dec (l < n) → Dec (l < openWidth) → getD r l 0 ≡ getD C l 0
+      place l (yes b) d = i .each n k S h l (omega (arith, h .words)) ∙ sym (columns-at n (cellOf k S) l b)
+      place l (no b) (yes d) = i .each n k S h l (omega arith) ∙ column-beyond (h .used) (h .ports) (h .addresses) l (omega arith) ∙ sym (beyond l (omega arith))
+      place l (no b) (no d) = List·getD-eq-default r 0 (omega (arith, i .whole)) ∙ sym (beyond l (omega arith))
 
 abbrev Inv-loop : tie.InvT-loop
 Inv-loop self columns₀ j₀ columns j = Filling self columns j

@@ -1,6 +1,7 @@
 -- Decisions made of decisions.
 --   both d e        whether two statements hold, where d decides the one and e the other
 --   through w d     whether a statement holds that holds exactly when the one that d decides does
+--   opposite d      whether the one that d decides fails
 use mathlib.Core.Logic.{_↔_}
 
 abbrev pub both : {A B : Type 0} → Dec A → Dec B → Dec (A × B)
@@ -11,3 +12,7 @@ both (no n) d = no (λ s. n (s .0))
 abbrev pub through : {A B : Type 0} → A ↔ B → Dec A → Dec B
 through w (yes a) = yes (w .0 a)
 through w (no n) = no (λ b. n (w .1 b))
+
+abbrev pub opposite : {A : Type 0} → Dec A → Dec (¬ A)
+opposite (yes a) = no (λ n. n a)
+opposite (no n) = yes n

@@ -5,7 +5,9 @@
 --   wordAt k c p    the number of the word at tick c, port p
 --   addressOf k x   the address of cell x: "the cell number is address*2^k + bank" (01, 'What a sheet holds')
 --   bankOf k x      its bank
-use Prim.Native.Nat.{ℕ, _+_, _-_, _*_, _/_, _%_, _^_}
+--   inOrder m f     f 0, f 1, .., f (m - 1)
+use Prim.Native.Nat.{ℕ, zero, suc, _+_, _-_, _*_, _/_, _%_, _^_}
+use mathlib.Core.List.{List, [], _∷_}
 
 abbrev pub tickBits : ℕ → ℕ → ℕ
 tickBits n k = n - k
@@ -24,3 +26,7 @@ addressOf k x = x / 2 ^ k
 
 abbrev pub bankOf : ℕ → ℕ → ℕ
 bankOf k x = x % 2 ^ k
+
+unfoldable pub inOrder : ℕ → (ℕ → ℕ) → List ℕ
+inOrder zero f = []
+inOrder (suc m) f = f 0 ∷ inOrder m (λ i. f (suc i))

@@ -14,6 +14,7 @@ use mathlib.Core.Path.{_≡_}
 use mathlib.Core.List.{List, [], _∷_}
 use mathlib.Core.Logic.{_⊎_}
 use mathlib.Core.Option.{Option, none, some}
+use Rattle.kinds.specs.Decided.{opposite}
 use Rattle.kinds.specs.Refusal.{numberOf}
 use Rattle.kinds.specs.declared.Refusal.{Refusal}
 
@@ -23,11 +24,7 @@ pub record Reason : Type 1 where
   pub decided : Dec applies
 
 abbrev pub unless : {A : Type 0} → Refusal → Dec A → Reason
-unless {A} r d = record { refusal = r; applies = ¬ A; decided = fails d }
-  where
-    fails : Dec A → Dec (¬ A)
-    fails (yes a) = no (λ n. n a)
-    fails (no n) = yes n
+unless {A} r d = record { refusal = r; applies = ¬ A; decided = opposite d }
 
 abbrev pub orElse : {A : Type 0} → Dec A → Refusal → Option Refusal → Option Refusal
 orElse (yes a) r o = some r

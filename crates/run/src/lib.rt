@@ -1,0 +1,320 @@
+// The run: one tick of any sheet.
+ghost use mathlib.Core.Path.{_≡_};
+ghost use mathlib.Core.Bool.{cond};
+ghost use Prim.Native.Nat.{_^_, _≤_};
+ghost use lib.Dec.{ltb};
+ghost use lib.ListN.{length};
+ghost use Rattle.kinds.specs.Answers.{Says};
+ghost use Rattle.kinds.specs.Edition.{edition1};
+ghost use Rattle.kinds.specs.Lowest.{lowest};
+ghost use Rattle.kinds.specs.Reasons.{RightLengths};
+ghost use Rattle.kinds.specs.Refusal.{said};
+ghost use Rattle.run.specs.Memory.{Filled, put, marked, wordsAt, onto};
+ghost use Rattle.run.specs.Faults.{Clash, faults};
+ghost use Rattle.run.specs.Call.{Possible, afterRead, next as nextState, runLengths, Ticks};
+ghost use Rattle.run.specs.Inside.{mostPorts, mostBanks, firstPair, Reaches, Ready, Serves, SomeMarked, ListsPlaces};
+use kinds::Answer;
+use kinds::Bank;
+use kinds::Port;
+use kinds::Refusal;
+use kinds::Tick;
+use maps::OpenSide;
+
+// "The state has a (ticks of the incoming frame so far), half h (0 or 1), and r (next tick to read, 2^t when idle)" (01).
+pub struct State {
+    pub a: u32,
+    pub h: u32,
+    pub r: u32,
+}
+
+// Done: the new state, and whether a tick was handed out.
+pub enum Ticked {
+    Done(State, bool),
+    Refused(Refusal),
+}
+
+// Room for the ports of a tick.
+const PORTS: usize = 32;
+
+// One call: the words that came, none of them on a blank tick, go in, and a tick of the frame before goes out. 1, 2, 5 and 10 to 14.
+pub fn tick(n: u32, k: u32, sheet: &[u16], state: State, came: &[u32], out: &mut [u32], words: &mut [u32], marks: &mut [u8]) -> Ticked
+    ensures { λ r. ⌜ Ticks edition1 n k (now (sheet .entry)) state (now (came .entry)) (now (words .entry)) (now (marks .entry)) (now (out .entry))
+        r (now (words .exit)) (now (marks .exit)) (now (out .exit)) ⌝ }
+{
+    let fits = lengths_fit(n, k, came.len(), out.len(), words.len(), marks.len());
+    let sides = maps::open(n, k, sheet, fits);
+    let checked = sides.answer;
+    if let Answer::Refused(refusal) = checked {
+        return Ticked::Refused(refusal);
+    }
+    let ticks = bits::two_to(n - k);
+    if !possible(state, ticks) {
+        return Ticked::Refused(Refusal::State);
+    }
+    let written = came.len();
+    let read = leaving(state, ticks, out.len());
+    let half = bits::two_to(n);
+    let mut writes = [0; PORTS];
+    let mut reads = [0; PORTS];
+    places(sides.write, Tick(state.a), state.h * half, &mut writes[0..written]);
+    places(sides.read, Tick(state.r), (1 - state.h) * half, &mut reads[0..read]);
+    let served = serve(k, &writes[0..written], came, &reads[0..read], out, words, marks);
+    if let Answer::Refused(refusal) = served {
+        return Ticked::Refused(refusal);
+    }
+    Ticked::Done(next(state, ticks, came), state.r < ticks)
+}
+
+// A frame of n beyond 63 has more places than any length.
+fn lengths_fit(n: u32, k: u32, came: usize, out: usize, words: usize, marks: usize) -> bool
+    ensures { λ r. ⌜ Says r (RightLengths (runLengths n k came out words marks)) ⌝ }
+{
+    if 63 < n {
+        return false;
+    }
+    if !bits::is_two_to(words, n + 1) {
+        return false;
+    }
+    if !bits::is_two_to(marks, n + 1) {
+        return false;
+    }
+    if !bits::is_two_to(out, k) {
+        return false;
+    }
+    if came == 0 {
+        return true;
+    }
+    bits::is_two_to(came, k)
+}
+
+fn possible(state: State, ticks: u32) -> bool
+    ensures { λ r. ⌜ Says r (Possible ticks state) ⌝ }
+{
+    if ticks <= state.a {
+        return false;
+    }
+    if state.r < state.a {
+        return false;
+    }
+    if ticks < state.r {
+        return false;
+    }
+    state.h < 2
+}
+
+// How many words leave in this call.
+fn leaving(state: State, ticks: u32, ports: usize) -> usize
+    ensures { λ r. ⌜ r ≡ cond (ltb (state .r) ticks) ports 0 ⌝ }
+{
+    if state.r < ticks {
+        return ports;
+    }
+    0
+}
+
+// The cells of a tick, as places of the memory.
+fn places(side: OpenSide, tick: Tick, base: u32, places: &mut [u32])
+    requires { ⌜ length (now places) ≤ mostPorts ⌝ }
+    requires { ⌜ base ≤ 2 ^ 16 ⌝ }
+    ensures { λ r. ⌜ ListsPlaces side (tick .0) base (now (places .entry)) (now (places .exit)) ⌝ }
+{
+    let mut cells = [0; PORTS];
+    let ports = places.len();
+    side.cells(tick, &mut cells[0..ports]);
+    let mut p = 0;
+    while p < ports {
+        let cell = cells[p] as u32;
+        places[p] = base + cell;
+        p += 1;
+    }
+}
+
+// The core of a call: which cells are written with which words, and which are read. Everything is looked at before anything is changed.
+fn serve(k: u32, writes: &[u32], came: &[u32], reads: &[u32], out: &mut [u32], words: &mut [u32], marks: &mut [u8]) -> Answer
+    requires { ⌜ Ready k (now writes) (now came) (now reads) (now out) (now words) (now marks) ⌝ }
+    ensures { λ r. ⌜ Serves k (now (writes .entry)) (now (came .entry)) (now (reads .entry)) (now (out .entry)) (now (words .entry)) (now (marks .entry))
+        r (now (out .exit)) (now (words .exit)) (now (marks .exit)) ⌝ }
+{
+    let answer = first_fault(k, writes, reads, marks);
+    let sound = kinds::is_done(answer);
+    if !sound {
+        return answer;
+    }
+    take_out(reads, out, words, marks);
+    store(writes, came, words, marks);
+    answer
+}
+
+// 11 to 14, of the cells and the marks as they came.
+fn first_fault(k: u32, writes: &[u32], reads: &[u32], marks: &[u8]) -> Answer
+    requires { ⌜ 2 ^ k ≤ mostBanks ⌝ }
+    requires { ⌜ Reaches (now writes) (now marks) ⌝ }
+    requires { ⌜ Reaches (now reads) (now marks) ⌝ }
+    ensures { λ r. ⌜ said r ≡ lowest (faults k (now (writes .entry)) (now (reads .entry)) (now (marks .entry))) ⌝ }
+{
+    let written = first_pair(k, writes);
+    if let Pair::Between(p, q) = written {
+        return Answer::Refused(Refusal::WriteClash(p, q));
+    }
+    if some_cell(writes, marks, true) {
+        return Answer::Refused(Refusal::Overwrite);
+    }
+    let read = first_pair(k, reads);
+    if let Pair::Between(p, q) = read {
+        return Answer::Refused(Refusal::ReadClash(p, q));
+    }
+    if some_cell(reads, marks, false) {
+        return Answer::Refused(Refusal::EmptyRead);
+    }
+    Answer::Done
+}
+
+// The first two ports whose cells are of one bank.
+enum Pair {
+    Nowhere,
+    Between(Port, Port),
+}
+
+// One pass says whether there is a pair; only then is it searched for.
+fn first_pair(k: u32, cells: &[u32]) -> Pair
+    requires { ⌜ 2 ^ k ≤ mostBanks ⌝ }
+    requires { ⌜ length (now cells) ≤ mostPorts ⌝ }
+    ensures { λ r. ⌜ r ≡ firstPair k (now (cells .entry)) ⌝ }
+{
+    if banks_differ(k, cells) {
+        return Pair::Nowhere;
+    }
+    find_pair(k, cells)
+}
+
+// A bit of `seen` for each bank.
+fn banks_differ(k: u32, cells: &[u32]) -> bool
+    requires { ⌜ 2 ^ k ≤ mostBanks ⌝ }
+    ensures { λ r. ⌜ Says r (¬ Clash k (now (cells .entry))) ⌝ }
+{
+    let mask = bits::two_to(k) - 1;
+    let mut seen: u64 = 0;
+    let mut p = 0;
+    while p < cells.len() {
+        let bank = Bank(cells[p] & mask);
+        if (seen >> bank.0) % 2 == 1 {
+            return false;
+        }
+        seen = seen ^ (1 << bank.0);
+        p += 1;
+    }
+    true
+}
+
+// "Two nested loops over ports, left by a label when two banks are equal" (01).
+fn find_pair(k: u32, cells: &[u32]) -> Pair
+    requires { ⌜ 2 ^ k ≤ mostBanks ⌝ }
+    requires { ⌜ length (now cells) ≤ mostPorts ⌝ }
+    ensures { λ r. ⌜ r ≡ firstPair k (now (cells .entry)) ⌝ }
+{
+    let mask = bits::two_to(k) - 1;
+    let mut pair = Pair::Nowhere;
+    let mut p = 0;
+    'ports: while p < cells.len() {
+        let bank = Bank(cells[p] & mask);
+        let mut q = p + 1;
+        while q < cells.len() {
+            let later = Bank(cells[q] & mask);
+            if bank.0 == later.0 {
+                pair = Pair::Between(Port(p as u32), Port(q as u32));
+                break 'ports;
+            }
+            q += 1;
+        }
+        p += 1;
+    }
+    pair
+}
+
+// Whether some cell is filled, or whether some cell is empty.
+fn some_cell(cells: &[u32], marks: &[u8], filled: bool) -> bool
+    requires { ⌜ Reaches (now cells) (now marks) ⌝ }
+    ensures { λ r. ⌜ Says r (SomeMarked filled (now (cells .entry)) (now (marks .entry))) ⌝ }
+{
+    let mut p = 0;
+    while p < cells.len() {
+        let at = cells[p] as usize;
+        if (marks[at] != 0) == filled {
+            return true;
+        }
+        p += 1;
+    }
+    false
+}
+
+// Out of each cell goes its word, and its mark is cleared.
+fn take_out(cells: &[u32], out: &mut [u32], words: &[u32], marks: &mut [u8])
+    requires { ⌜ Reaches (now cells) (now marks) ⌝ }
+    requires { ⌜ length (now words) ≡ length (now marks) ⌝ }
+    requires { ⌜ length (now cells) ≤ length (now out) ⌝ }
+    ensures { λ r. ⌜ now (out .exit) ≡ onto (wordsAt (now (cells .entry)) (now (words .entry))) (now (out .entry)) ⌝ }
+    ensures { λ r. ⌜ now (marks .exit) ≡ marked 0 (now (cells .entry)) (now (marks .entry)) ⌝ }
+{
+    let mut p = 0;
+    while p < cells.len() {
+        let at = cells[p] as usize;
+        out[p] = words[at];
+        marks[at] = 0;
+        p += 1;
+    }
+}
+
+// Into each cell goes a word, with mark 1.
+fn store(cells: &[u32], came: &[u32], words: &mut [u32], marks: &mut [u8])
+    requires { ⌜ Reaches (now cells) (now marks) ⌝ }
+    requires { ⌜ length (now words) ≡ length (now marks) ⌝ }
+    requires { ⌜ length (now came) ≡ length (now cells) ⌝ }
+    ensures { λ r. ⌜ now (words .exit) ≡ put (now (cells .entry)) (now (came .entry)) (now (words .entry)) ⌝ }
+    ensures { λ r. ⌜ now (marks .exit) ≡ marked 1 (now (cells .entry)) (now (marks .entry)) ⌝ }
+{
+    let mut p = 0;
+    while p < cells.len() {
+        let at = cells[p] as usize;
+        words[at] = came[p];
+        marks[at] = 1;
+        p += 1;
+    }
+}
+
+impl State {
+    fn after_read(self, ticks: u32) -> State
+        ensures { λ r. ⌜ r ≡ afterRead ticks self ⌝ }
+    {
+        if self.r < ticks {
+            return State {
+                a: self.a,
+                h: self.h,
+                r: self.r + 1,
+            };
+        }
+        self
+    }
+}
+
+fn next(state: State, ticks: u32, came: &[u32]) -> State
+    requires { ⌜ Possible ticks state ⌝ }
+    ensures { λ r. ⌜ r ≡ nextState ticks (now (came .entry)) state ⌝ }
+{
+    let read = state.after_read(ticks);
+    if came.len() == 0 {
+        return read;
+    }
+    let a = read.a + 1;
+    if a == ticks {
+        return State {
+            a: 0,
+            h: 1 - read.h,
+            r: 0,
+        };
+    }
+    State {
+        a,
+        h: read.h,
+        r: read.r,
+    }
+}

@@ -1,6 +1,7 @@
 -- What a call does to the memory. Which cells it writes and reads is not said here: nothing in this file knows of sheets.
 --   Memory               the words, and a mark for each
 --   Filled l x           cell x is filled, where l is the marks: "a mark that isn't zero means filled" (01, 'One tick of the run')
+--   filledMarks l        how many marks of l say filled
 --   put cs vs l          the list l after the first number of vs went to the first place of cs, the second to the second, and so on
 --   marked v cs l        the list l after v went to each place of cs
 --   stored cs ws m       the memory after the words ws went to the cells cs, "each with mark 1"
@@ -9,7 +10,7 @@
 --   Access               what a call does: which cells it writes, by port, with which words, and which cells it reads, by port
 --   served A m           the memory after that
 --   onto ws out          the out buffer after the words ws went there, from its first place on
-use Prim.Native.Nat.{ℕ}
+use Prim.Native.Nat.{ℕ, zero, suc}
 use mathlib.Core.Path.{_≡_}
 use mathlib.Core.List.{List, [], _∷_, _++_, map}
 use mathlib.Core.Logic.{_≢_}
@@ -21,6 +22,11 @@ pub record Memory : Type 0 where
 
 abbrev pub Filled : List ℕ → ℕ → Type 0
 Filled l x = getD l x 0 ≢ 0
+
+unfoldable pub filledMarks : List ℕ → ℕ
+filledMarks [] = 0
+filledMarks (zero ∷ l) = filledMarks l
+filledMarks (suc v ∷ l) = suc (filledMarks l)
 
 unfoldable pub put : List ℕ → List ℕ → List ℕ → List ℕ
 put [] vs l = l

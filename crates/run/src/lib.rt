@@ -37,7 +37,16 @@ pub enum Ticked {
 const PORTS: usize = 32;
 
 // One call: the words that came, none of them on a blank tick, go in, and a tick of the frame before goes out. 1, 2, 5 and 10 to 14.
-pub fn tick(n: u32, k: u32, sheet: &[u16], state: State, came: &[u32], out: &mut [u32], words: &mut [u32], marks: &mut [u8]) -> Ticked
+pub fn tick(
+    n: u32,
+    k: u32,
+    sheet: &[u16],
+    state: State,
+    came: &[u32],
+    out: &mut [u32],
+    words: &mut [u32],
+    marks: &mut [u8],
+) -> Ticked
     ensures { λ r. ⌜ Ticks edition1 n k (now (sheet .entry)) state (now (came .entry)) (now (words .entry)) (now (marks .entry)) (now (out .entry))
         r (now (words .exit)) (now (marks .exit)) (now (out .exit)) ⌝ }
 {
@@ -56,9 +65,27 @@ pub fn tick(n: u32, k: u32, sheet: &[u16], state: State, came: &[u32], out: &mut
     let half = bits::two_to(n);
     let mut writes = [0; PORTS];
     let mut reads = [0; PORTS];
-    places(sides.write, Tick(state.a), state.h * half, &mut writes[0..written]);
-    places(sides.read, Tick(state.r), (1 - state.h) * half, &mut reads[0..read]);
-    let served = serve(k, &writes[0..written], came, &reads[0..read], out, words, marks);
+    places(
+        sides.write,
+        Tick(state.a),
+        state.h * half,
+        &mut writes[0..written],
+    );
+    places(
+        sides.read,
+        Tick(state.r),
+        (1 - state.h) * half,
+        &mut reads[0..read],
+    );
+    let served = serve(
+        k,
+        &writes[0..written],
+        came,
+        &reads[0..read],
+        out,
+        words,
+        marks,
+    );
     if let Answer::Refused(refusal) = served {
         return Ticked::Refused(refusal);
     }
@@ -130,7 +157,15 @@ fn places(side: OpenSide, tick: Tick, base: u32, places: &mut [u32])
 }
 
 // The core of a call: which cells are written with which words, and which are read. Everything is looked at before anything is changed.
-fn serve(k: u32, writes: &[u32], came: &[u32], reads: &[u32], out: &mut [u32], words: &mut [u32], marks: &mut [u8]) -> Answer
+fn serve(
+    k: u32,
+    writes: &[u32],
+    came: &[u32],
+    reads: &[u32],
+    out: &mut [u32],
+    words: &mut [u32],
+    marks: &mut [u8],
+) -> Answer
     requires { ⌜ Ready k (now writes) (now came) (now reads) (now out) (now words) (now marks) ⌝ }
     ensures { λ r. ⌜ Serves k (now (writes .entry)) (now (came .entry)) (now (reads .entry)) (now (out .entry)) (now (words .entry)) (now (marks .entry))
         r (now (out .exit)) (now (words .exit)) (now (marks .exit)) ⌝ }

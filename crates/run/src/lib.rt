@@ -321,10 +321,11 @@ impl State {
         ensures { λ r. ⌜ r ≡ afterRead ticks self ⌝ }
     {
         if self.r < ticks {
+            let r = self.r + 1;
             return State {
                 a: self.a,
                 h: self.h,
-                r: self.r + 1,
+                r,
             };
         }
         self
@@ -340,10 +341,11 @@ fn next(state: State, ticks: u32, came: &[u32]) -> State
         return read;
     }
     let a = read.a + 1;
+    let other = 1 - read.h;
     if a == ticks {
         return State {
             a: 0,
-            h: 1 - read.h,
+            h: other,
             r: 0,
         };
     }

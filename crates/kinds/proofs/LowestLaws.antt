@@ -4,6 +4,7 @@
 --   lowest-take     a first reason that applies is given
 --   lowest-skip     a first reason that doesn't leaves the rest to decide
 --   lowest-append   a table after another decides where that one gives nothing
+--   lowest-before   what a table gives, it gives with another after it
 --   lowest-none     nothing is given exactly when no reason applies
 --   lowest-first    what is given is the first that applies, and nothing else
 --   lowest-law      of a table with ascending numbers, what is given is the lowest that applies, and nothing else
@@ -58,6 +59,14 @@ lowest-none t = (none-each t, each-none t)
 pub lowest-append : (s t : List Reason) → EachReason (λ r. ¬ r .applies) s → lowest (s ++ t) ≡ lowest t
 lowest-append [] t h = refl
 lowest-append (r ∷ s) t h = lowest-skip r (s ++ t) (h .0) ∙ lowest-append s t (h .1)
+
+pub lowest-before : (s t : List Reason) {x : Refusal} → lowest s ≡ some x → lowest (s ++ t) ≡ some x
+lowest-before [] t e = none-some (sym lowest-nil ∙ e)
+lowest-before (r ∷ s) t {x} e = go (lowest-before s t) (r .decided)
+  where
+    go : (lowest s ≡ some x → lowest (s ++ t) ≡ some x) → Dec (r .applies) → lowest (r ∷ s ++ t) ≡ some x
+    go rest (yes a) = lowest-take r (s ++ t) a ∙ sym (lowest-take r s a) ∙ e
+    go rest (no n) = lowest-skip r (s ++ t) n ∙ rest (sym (lowest-skip r s n) ∙ e)
 
 given-first : (t : List Reason) (x : Refusal) → lowest t ≡ some x → FirstThatApplies t x
 given-first [] x e = none-some (sym lowest-nil ∙ e)

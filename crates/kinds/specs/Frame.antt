@@ -1,5 +1,6 @@
 -- The words of a frame (01, 'Orders, ticks and ports'): 2^n of them, 2^k on each tick, and t = n - k, so 2^t ticks. And the cells they stand in.
 --   tickBits n k    t, the bits of a tick
+--   ticks n k       2^t, the ticks of a frame
 --   tickOf k i      the tick of word i, or of place i: "c = i / 2^k (whole part)"
 --   portOf k i      its port: "p = i mod 2^k"
 --   wordAt k c p    the number of the word at tick c, port p
@@ -11,6 +12,9 @@ use mathlib.Core.List.{List, [], _∷_}
 
 abbrev pub tickBits : ℕ → ℕ → ℕ
 tickBits n k = n - k
+
+abbrev pub ticks : ℕ → ℕ → ℕ
+ticks n k = 2 ^ tickBits n k
 
 abbrev pub tickOf : ℕ → ℕ → ℕ
 tickOf k i = i / 2 ^ k

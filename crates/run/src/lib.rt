@@ -2,7 +2,6 @@
 ghost use mathlib.Core.Path.{_≡_};
 ghost use mathlib.Core.Bool.{cond};
 ghost use Prim.Native.Nat.{_^_, _≤_};
-ghost use lib.Dec.{ltb};
 ghost use lib.ListN.{length};
 ghost use Rattle.kinds.specs.Answers.{Says};
 ghost use Rattle.kinds.specs.Edition.{edition1};
@@ -11,7 +10,8 @@ ghost use Rattle.kinds.specs.Reasons.{RightLengths};
 ghost use Rattle.kinds.specs.Refusal.{said};
 ghost use Rattle.run.specs.Memory.{Filled, put, marked, wordsAt, onto};
 ghost use Rattle.run.specs.Faults.{Clash, faults};
-ghost use Rattle.run.specs.Call.{Possible, afterRead, next as nextState, runLengths, Ticks};
+ghost use Rattle.run.specs.States.{Possible, reading, afterRead, next as nextState};
+ghost use Rattle.run.specs.Tool.{runLengths, Ticks};
 ghost use Rattle.run.specs.Inside.{mostPorts, mostBanks, firstPair, Reaches, Ready, Serves, SomeMarked, ListsPlaces};
 use kinds::Answer;
 use kinds::Bank;
@@ -47,8 +47,9 @@ pub fn tick(
     words: &mut [u32],
     marks: &mut [u8],
 ) -> Ticked
-    ensures { λ r. ⌜ Ticks edition1 n k (now (sheet .entry)) state (now (came .entry)) (now (words .entry)) (now (marks .entry)) (now (out .entry))
-        r (now (words .exit)) (now (marks .exit)) (now (out .exit)) ⌝ }
+    ensures { λ r. ⌜ Ticks edition1 n k (now (sheet .entry)) state (now (came .entry))
+        (record { words = now (words .entry); marks = now (marks .entry) }) (now (out .entry)) r
+        (record { words = now (words .exit); marks = now (marks .exit) }) (now (out .exit)) ⌝ }
 {
     let fits = lengths_fit(n, k, came.len(), out.len(), words.len(), marks.len());
     let sides = maps::open(n, k, sheet, fits);
@@ -60,23 +61,15 @@ pub fn tick(
     if !possible(state, ticks) {
         return Ticked::Refused(Refusal::State);
     }
+    let half = bits::two_to(n);
+    let into = state.h * half;
+    let from = (1 - state.h) * half;
     let written = came.len();
     let read = leaving(state, ticks, out.len());
-    let half = bits::two_to(n);
     let mut writes = [0; PORTS];
     let mut reads = [0; PORTS];
-    places(
-        sides.write,
-        Tick(state.a),
-        state.h * half,
-        &mut writes[0..written],
-    );
-    places(
-        sides.read,
-        Tick(state.r),
-        (1 - state.h) * half,
-        &mut reads[0..read],
-    );
+    places(sides.write, Tick(state.a), into, &mut writes[0..written]);
+    places(sides.read, Tick(state.r), from, &mut reads[0..read]);
     let served = serve(
         k,
         &writes[0..written],
@@ -131,7 +124,7 @@ fn possible(state: State, ticks: u32) -> bool
 
 // How many words leave in this call.
 fn leaving(state: State, ticks: u32, ports: usize) -> usize
-    ensures { λ r. ⌜ r ≡ cond (ltb (state .r) ticks) ports 0 ⌝ }
+    ensures { λ r. ⌜ r ≡ cond (reading ticks state) ports 0 ⌝ }
 {
     if state.r < ticks {
         return ports;
@@ -148,9 +141,10 @@ fn places(side: OpenSide, tick: Tick, base: u32, places: &mut [u32])
     let mut cells = [0; PORTS];
     let ports = places.len();
     side.cells(tick, &mut cells[0..ports]);
+    let listed = &cells[0..ports];
     let mut p = 0;
     while p < ports {
-        let cell = cells[p] as u32;
+        let cell = listed[p] as u32;
         places[p] = base + cell;
         p += 1;
     }
@@ -334,7 +328,7 @@ impl State {
 
 fn next(state: State, ticks: u32, came: &[u32]) -> State
     requires { ⌜ Possible ticks state ⌝ }
-    ensures { λ r. ⌜ r ≡ nextState ticks (now (came .entry)) state ⌝ }
+    ensures { λ r. ⌜ r ≡ nextState ticks state (now (came .entry)) ⌝ }
 {
     let read = state.after_read(ticks);
     if came.len() == 0 {

@@ -1,7 +1,7 @@
 -- `run::lengths_fit` meets its contract. No length of 64 bits is 2^65 or more.
 use Prim.Native.Nat.{ℕ, zero, suc, _+_, _^_}
 use mathlib.Core.Path.{_≡_, refl, sym, _∙_}
-use mathlib.Core.List.{[], _∷_}
+use mathlib.Core.List.{_∷_}
 use mathlib.Core.Logic.{_≢_}
 use borrow.Author.Needs.{needs}
 use borrow.Author.Tests.{not-true, not-false}
@@ -9,7 +9,7 @@ use native.Mathlib.Omega.{arith}
 use lib.Pow.{pow-mono}
 use Rattle.kinds.specs.Reasons.{RightLengths}
 use Rattle.kinds.proofs.TruthLaws.{says-no, says-yes, denied}
-use Rattle.run.specs.Call.{rightTick}
+use Rattle.run.specs.Tool.{rightTick}
 use Rattle.run.proofs.lengths_fit.Statement.{statement}
 use Rattle.run.proofs.lengths_fit.Tie as tie
 
@@ -29,8 +29,10 @@ module _ (c : tie.Else4) where
   fitting : RightLengths ((start .args .out, 2 ^ start .args .k) ∷ (start .args .words, 2 ^ (start .args .n + 1)) ∷ (start .args .marks, 2 ^ (start .args .n + 1)) ∷ [])
   fitting = (
     c .before .is-two-to3 .ensures .0 (not-false _ (c .if4 .left)),
-    (c .before .before .before .before .before .is-two-to .ensures .0 (not-false _ (c .before .before .before .before .if2 .left)),
-    (c .before .before .before .is-two-to2 .ensures .0 (not-false _ (c .before .before .if3 .left)), tt)),
+    (
+      c .before .before .before .before .before .is-two-to .ensures .0 (not-false _ (c .before .before .before .before .if2 .left)),
+      (c .before .before .before .is-two-to2 .ensures .0 (not-false _ (c .before .before .if3 .left)), tt),
+    ),
   )
 
 returns : tie.Need-returns

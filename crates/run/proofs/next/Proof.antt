@@ -2,7 +2,7 @@
 use Prim.Native.Nat.{ℕ, _+_, _-_, _<_}
 use mathlib.Core.Path.{_≡_, refl, ap, _∙_}
 use mathlib.Core.Bool.{Bool, true, false, cond}
-use mathlib.Core.List.{List, [], _∷_}
+use mathlib.Core.List.{List, _∷_}
 use mathlib.Core.Logic.{_≢_}
 use borrow.Author.Needs.{needs}
 use borrow.Author.Tests.{eq-eqb, ne-eqb}
@@ -10,7 +10,7 @@ use lib.Dec.{ltb}
 use lib.ListN.{length}
 use native.Mathlib.Nat.{ne-of-lt}
 use native.Mathlib.Omega.{arith}
-use Rattle.run.specs.Call.{afterRead, afterWrite, turned, next as nextState}
+use Rattle.run.specs.States.{afterRead, afterWrite, turned, next as nextState}
 use Rattle.run.specs.declared.State.{State}
 use Rattle.run.proofs.next.Statement.{statement}
 use Rattle.run.proofs.next.Tie as tie
@@ -30,15 +30,15 @@ read-h : (T : ℕ) (st : State) → afterRead T st .h ≡ st .h
 read-h T st = same-h (ltb (st .r) T) _ st refl
 
 -- what is left after the read
-blank : (T : ℕ) (x : State) (ws : List ℕ) → x .a < T → length ws ≡ 0 → x ≡ turned T (afterWrite ws x)
+blank : (T : ℕ) (x : State) (ws : List ℕ) → x .a < T → length ws ≡ 0 → x ≡ turned T (afterWrite x ws)
 blank T x [] h l = rw (ne-eqb (x .a) T (ne-of-lt h))
 blank T x (w ∷ ws) h l = absurd (omega arith)
 
-completes : (T : ℕ) (x : State) (ws : List ℕ) → length ws ≢ 0 → x .a + 1 ≡ T → _≡_ {A = State} (record { a = 0; h = 1 - x .h; r = 0 }) (turned T (afterWrite ws x))
+completes : (T : ℕ) (x : State) (ws : List ℕ) → length ws ≢ 0 → x .a + 1 ≡ T → _≡_ {A = State} (record { a = 0; h = 1 - x .h; r = 0 }) (turned T (afterWrite x ws))
 completes T x [] n t = absurd (n refl)
 completes T x (w ∷ ws) n t = rw (eq-eqb (x .a + 1) T t)
 
-goes-on : (T : ℕ) (x : State) (ws : List ℕ) → length ws ≢ 0 → x .a + 1 ≢ T → _≡_ {A = State} (record { a = x .a + 1; h = x .h; r = x .r }) (turned T (afterWrite ws x))
+goes-on : (T : ℕ) (x : State) (ws : List ℕ) → length ws ≢ 0 → x .a + 1 ≢ T → _≡_ {A = State} (record { a = x .a + 1; h = x .h; r = x .r }) (turned T (afterWrite x ws))
 goes-on T x [] n t = absurd (n refl)
 goes-on T x (w ∷ ws) n t = rw (ne-eqb (x .a + 1) T t)
 
@@ -61,8 +61,8 @@ module _ (c : tie.After-after-read) where
   half : x .h < 2
   half = omega (arith, begin .pre .half, ap (λ (st : State). st .h) (c .after-read .ensures), read-h T (begin .args .state))
 
-  then : turned T (afterWrite ws x) ≡ nextState T ws (begin .args .state)
-  then = ap (λ (st : State). turned T (afterWrite ws st)) (c .after-read .ensures)
+  then : turned T (afterWrite x ws) ≡ nextState T (begin .args .state) ws
+  then = ap (λ (st : State). turned T (afterWrite st ws)) (c .after-read .ensures)
 
 after-read-requires : tie.Need-after-read-requires
 after-read-requires c κs = search needs

@@ -1,0 +1,8 @@
+-- Laws of the memory, of the faults, of a call and its table.
+pub mod MemoryLaws
+pub mod PartLaws
+pub mod TableLaws
+pub mod PlaceLaws
+pub mod CountLaws
+pub mod CallLaws
+pub mod Cases

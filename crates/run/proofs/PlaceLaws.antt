@@ -1,0 +1,100 @@
+-- Places of the memory, and the cells that a call reads and writes.
+--   half-bank          a half starts at bank 0, so a place has the bank of its cell
+--   halves-apart       places of two halves are different
+--   places-at          the cells of a tick, one by one
+--   reads-length, writes-length    a call reads 2^k cells or none, and writes 2^k or none
+--   reads-few          so it reads at most 2^k
+--   place-bank         on a side of a sheet, a place has the bank of the word that goes there
+--   places-clash       the cells of a tick clash exactly when two of its words have one bank
+--   places-below       they are places of the memory
+--   reads-below, writes-below      so are the cells that a call reads, and those that it writes
+use Prim.Native.Nat.{ℕ, _+_, _-_, _*_, _/_, _^_, _<_, _≤_}
+use mathlib.Core.Path.{_≡_, refl, sym, ap, _∙_}
+use mathlib.Core.Bool.{Bool, true, false, cond}
+use mathlib.Core.List.{List, _∷_}
+use mathlib.Core.Logic.{_≢_, _↔_}
+use native.Mathlib.Nat.{mul-assoc, mul-add-mod-self-right}
+use native.Mathlib.Omega.{arith}
+use lib.Arith.{digits-lt}
+use lib.ListN.{length, getD}
+use lib.Pow.{pow-add, high}
+use Rattle.kinds.specs.Frame.{tickBits, ticks, tickOf, portOf, wordAt, bankOf}
+use Rattle.kinds.proofs.FrameLaws.{order-length, order-at}
+use Rattle.bits.specs.Image.{AllBelow}
+use Rattle.sheet.specs.Sheet.{Side}
+use Rattle.sheet.specs.Layout.{InRange}
+use Rattle.maps.specs.Cells.{bankAt, cellOf}
+use Rattle.maps.proofs.CellLaws.{bank-of-cell, cell-lt, cell-word}
+use Rattle.run.specs.Faults.{Clash}
+use Rattle.run.specs.States.{reading}
+use Rattle.run.specs.Call.{placeIn, placesOf, readsOf, writesOf}
+use Rattle.run.specs.Tool.{rightTick}
+use Rattle.run.specs.declared.State.{State}
+
+pub half-bank : {n k : ℕ} → k ≤ n → (h x : ℕ) → bankOf k (placeIn n h x) ≡ bankOf k x
+half-bank {n} {k} within h x =
+    let parts : 2 ^ n ≡ 2 ^ tickBits n k * 2 ^ k = ap (λ (i : ℕ). 2 ^ i) (omega arith) ∙ pow-add 2 (tickBits n k) k in
+    ap (λ (i : ℕ). bankOf k (i + x)) (ap (λ (i : ℕ). h * i) parts ∙ sym (mul-assoc h (2 ^ tickBits n k) (2 ^ k)))
+    ∙ mul-add-mod-self-right (h * 2 ^ tickBits n k) (2 ^ k) x
+
+pub halves-apart : (n : ℕ) {g h x y : ℕ} → x < 2 ^ n → y < 2 ^ n → g ≢ h → placeIn n g x ≢ placeIn n h y
+halves-apart n {g} {h} l r differ same = differ (sym (high g n l) ∙ ap (λ (i : ℕ). i / 2 ^ n) same ∙ high h n r)
+
+module _ (n k : ℕ) (f : ℕ → ℕ) where
+  pub places-at : (h c p : ℕ) → p < 2 ^ k → getD (placesOf n k f h c) p 0 ≡ placeIn n h (f (wordAt k c p))
+  places-at h c = order-at (2 ^ k) (λ p. placeIn n h (f (wordAt k c p)))
+
+  places-length : (h c : ℕ) → length (placesOf n k f h c) ≡ 2 ^ k
+  places-length h c = order-length (2 ^ k) (λ p. placeIn n h (f (wordAt k c p)))
+
+  pub reads-length : (st : State) → length (readsOf n k f st) ≡ cond (reading (ticks n k) st) (2 ^ k) 0
+  reads-length st = go (reading (ticks n k) st)
+    where
+      go : (b : Bool) → length (cond b (placesOf n k f (1 - st .h) (st .r)) []) ≡ cond b (2 ^ k) 0
+      go true = places-length (1 - st .h) (st .r)
+      go false = refl
+
+  pub reads-few : (st : State) → length (readsOf n k f st) ≤ 2 ^ k
+  reads-few st = rw (reads-length st) (go (reading (ticks n k) st))
+    where
+      go : (b : Bool) → cond b (2 ^ k) 0 ≤ 2 ^ k
+      go true = omega arith
+      go false = omega arith
+
+  pub writes-length : (st : State) (ws : List ℕ) → length (writesOf n k f st ws) ≡ rightTick k (length ws)
+  writes-length st [] = refl
+  writes-length st (w ∷ ws) = places-length (st .h) (st .a)
+
+module _ {n k : ℕ} {S : Side} (used : InRange n k S) (within : k ≤ n) where
+  pub place-bank : (h c p : ℕ) → p < 2 ^ k → bankOf k (placeIn n h (cellOf k S (wordAt k c p))) ≡ bankAt S c p
+  place-bank h c p l = half-bank within h (cellOf k S (wordAt k c p)) ∙ ap (bankOf k) (sym (cell-word k S c p l)) ∙ bank-of-cell used c p
+
+  cell-bank : (h c p : ℕ) → p < 2 ^ k → bankOf k (getD (placesOf n k (cellOf k S) h c) p 0) ≡ bankAt S c p
+  cell-bank h c p l = ap (bankOf k) (places-at n k (cellOf k S) h c p l) ∙ place-bank h c p l
+
+  pub places-clash : (h c : ℕ)
+      → Clash k (placesOf n k (cellOf k S) h c) ↔ ((p : ℕ) × (q : ℕ) × (p < q) × (q < 2 ^ k) × (bankAt S c p ≡ bankAt S c q))
+  places-clash h c =
+      let all = places-length n k (cellOf k S) h c in (
+        λ (p, l, (q, r, (b, e))).
+            (p, q, b, omega arith, sym (cell-bank h c p (omega arith)) ∙ e ∙ cell-bank h c q (omega arith)),
+        λ (p, q, b, r, e).
+            (p, omega arith, (q, omega arith, (b, cell-bank h c p (omega arith) ∙ e ∙ sym (cell-bank h c q r)))),
+      )
+
+  pub places-below : (h c : ℕ) → h < 2 → AllBelow (2 ^ (n + 1)) (placesOf n k (cellOf k S) h c)
+  places-below h c half p l =
+      let i = wordAt k c p in
+      rw (places-at n k (cellOf k S) h c p (rw (places-length n k (cellOf k S) h c) at l))
+      (omega (arith, digits-lt half (cell-lt used within (tickOf k i) (portOf k i)), pow-add 2 n 1))
+
+  pub reads-below : (st : State) → AllBelow (2 ^ (n + 1)) (readsOf n k (cellOf k S) st)
+  reads-below st = go (reading (ticks n k) st)
+    where
+      go : (b : Bool) → AllBelow (2 ^ (n + 1)) (cond b (placesOf n k (cellOf k S) (1 - st .h) (st .r)) [])
+      go true = places-below (1 - st .h) (st .r) (omega arith)
+      go false = λ p l. absurd (omega arith)
+
+  pub writes-below : (st : State) (ws : List ℕ) → st .h < 2 → AllBelow (2 ^ (n + 1)) (writesOf n k (cellOf k S) st ws)
+  writes-below st [] half = λ p l. absurd (omega arith)
+  writes-below st (w ∷ ws) half = places-below (st .h) (st .a) half

@@ -12,7 +12,7 @@
 --   call t n k f g st ws m      a call: the lowest of the reasons of t, which come first, and of 11 to 14 that applies, and what comes of it
 use Prim.Native.Nat.{ℕ, _+_, _-_, _*_, _^_}
 use mathlib.Core.Bool.{Bool, false, cond}
-use mathlib.Core.List.{List, _∷_, _++_}
+use mathlib.Core.List.{List, [], _∷_, _++_}
 use mathlib.Core.Option.{Option, none, some}
 use Rattle.kinds.specs.Frame.{ticks, wordAt, inOrder}
 use Rattle.kinds.specs.Lowest.{Reason, lowest}

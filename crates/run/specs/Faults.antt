@@ -17,7 +17,7 @@
 --                               no cells, and one with nothing to read reads none: then nothing of that side applies
 use Prim.Native.Nat.{ℕ, _<_}
 use mathlib.Core.Path.{_≡_}
-use mathlib.Core.List.{List, _∷_}
+use mathlib.Core.List.{List, [], _∷_}
 use native.Mathlib.Decide.{decLt, ℕ-discrete}
 use lib.ListN.{length, getD}
 use Rattle.kinds.specs.Decided.{both, opposite}

@@ -11,7 +11,7 @@
 --   served A m           the memory after that
 --   onto ws out          the out buffer after the words ws went there, from its first place on
 use Prim.Native.Nat.{ℕ, zero, suc}
-use mathlib.Core.List.{List, _∷_, _++_, map}
+use mathlib.Core.List.{List, [], _∷_, _++_, map}
 use mathlib.Core.Logic.{_≢_}
 use lib.ListN.{length, getD, set, drop, replicate}
 

@@ -9,7 +9,7 @@
 --   next T st ws          the state after the call
 use Prim.Native.Nat.{ℕ, _+_, _-_, _<_, _≤_}
 use mathlib.Core.Bool.{Bool, cond}
-use mathlib.Core.List.{List, _∷_}
+use mathlib.Core.List.{List, [], _∷_}
 use native.Mathlib.Decide.{decLt, decLe}
 use lib.Dec.{ltb, eqb}
 use Rattle.kinds.specs.Decided.{both, through}

@@ -1,6 +1,7 @@
 -- Laws of the memory, of the faults, of a call and its table.
 pub mod MemoryLaws
 pub mod PartLaws
+pub mod FaultLaws
 pub mod TableLaws
 pub mod PlaceLaws
 pub mod CountLaws

@@ -1,17 +1,15 @@
 -- When a call must not go on (01, 'When a tool says no', 11 to 14), for any cells that it writes and reads.
---   WantOneBank k cs p q        "two words want one bank in this call": port p and a later port q, where cs is the cells, by port
+--   WantOneBank k cs p q        port p and a later port q want one bank, where cs is the cells, by port. A half starts at bank 0, so the bank of a place is that of its cell
 --   wantOneBank? k cs p q       whether they do
 --   LaterPort k cs p            some later port wants the bank of port p
 --   Clash k cs                  some port has such a later one
 --   laterPort? k cs p           whether port p has one: a search from port 0 up
 --   clash? k cs                 whether some port has: a search from port 0 up
---   firstPort k cs, secondPort k cs      "the first such pair, lowest port first (smallest first port, then smallest second)"
---   named F k cs                the refusal F that names this pair
---   filled? l x                 whether cell x is filled
---   SomeFilled l cs, SomeEmpty l cs      some cell of cs is filled, and some is empty, where l is the marks
---   writeClash k cs             11: two written words want one bank
+--   firstPort k cs, secondPort k cs      "the first such pair, lowest port first": smallest first port, then smallest second
+--   clash F k cs                11 and 13: two written, or two read, words want one bank; F is the refusal that names the pair
+--   SomeFilled l cs             some cell of cs is filled, where l is the marks
+--   SomeEmpty l cs              some cell of cs is empty
 --   overwrite l cs              12: a cell to be written is filled
---   readClash k cs              13: two read words want one bank
 --   emptyRead l cs              14: a cell to be read is empty
 --   faults k writes reads l     11 to 14, of the cells that a call writes and of those that it reads, by port, where l is the marks as they came. A call that brings no words writes
 --                               no cells, and one with nothing to read reads none: then nothing of that side applies
@@ -27,7 +25,7 @@ use Rattle.kinds.specs.Lowest.{Reason}
 use Rattle.kinds.specs.declared.Port.{Port}
 use Rattle.kinds.specs.declared.Refusal.{Refusal}
 use Rattle.kinds.specs.declared.Refusal.the-variants.{WriteClash, Overwrite, ReadClash, EmptyRead}
-use Rattle.run.specs.Memory.{Filled}
+use Rattle.run.specs.Memory.{Filled, filled?}
 
 abbrev pub WantOneBank : ℕ → List ℕ → ℕ → ℕ → Type 0
 WantOneBank k cs p q = (p < q) × (bankOf k (getD cs p 0) ≡ bankOf k (getD cs q 0))
@@ -53,11 +51,8 @@ firstPort k cs = found (clash? k cs)
 abbrev pub secondPort : ℕ → List ℕ → ℕ
 secondPort k cs = found (laterPort? k cs (firstPort k cs))
 
-abbrev pub named : (Port → Port → Refusal) → ℕ → List ℕ → Refusal
-named F k cs = F (record { 0 = firstPort k cs }) (record { 0 = secondPort k cs })
-
-abbrev pub filled? : (l : List ℕ) (x : ℕ) → Dec (Filled l x)
-filled? l x = opposite (ℕ-discrete (getD l x 0) 0)
+abbrev pub clash : (Port → Port → Refusal) → ℕ → List ℕ → Reason
+clash F k cs = record { refusal = F (record { 0 = firstPort k cs }) (record { 0 = secondPort k cs }); applies = Clash k cs; decided = clash? k cs }
 
 abbrev pub SomeFilled : List ℕ → List ℕ → Type 0
 SomeFilled l cs = (p : ℕ) × (p < length cs) × Filled l (getD cs p 0)
@@ -65,14 +60,8 @@ SomeFilled l cs = (p : ℕ) × (p < length cs) × Filled l (getD cs p 0)
 abbrev pub SomeEmpty : List ℕ → List ℕ → Type 0
 SomeEmpty l cs = (p : ℕ) × (p < length cs) × ¬ Filled l (getD cs p 0)
 
-abbrev pub writeClash : ℕ → List ℕ → Reason
-writeClash k cs = record { refusal = named WriteClash k cs; applies = Clash k cs; decided = clash? k cs }
-
 abbrev pub overwrite : List ℕ → List ℕ → Reason
 overwrite l cs = record { refusal = Overwrite; applies = SomeFilled l cs; decided = someBelow (λ p. filled? l (getD cs p 0)) (length cs) }
-
-abbrev pub readClash : ℕ → List ℕ → Reason
-readClash k cs = record { refusal = named ReadClash k cs; applies = Clash k cs; decided = clash? k cs }
 
 abbrev pub emptyRead : List ℕ → List ℕ → Reason
 emptyRead l cs = record {
@@ -82,4 +71,4 @@ emptyRead l cs = record {
 }
 
 abbrev pub faults : ℕ → List ℕ → List ℕ → List ℕ → List Reason
-faults k writes reads l = writeClash k writes ∷ overwrite l writes ∷ readClash k reads ∷ emptyRead l reads ∷ []
+faults k writes reads l = clash WriteClash k writes ∷ overwrite l writes ∷ clash ReadClash k reads ∷ emptyRead l reads ∷ []

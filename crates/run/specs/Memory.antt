@@ -1,6 +1,7 @@
 -- What a call does to the memory. Which cells it writes and reads is not said here: nothing in this file knows of sheets.
 --   Memory               the words, and a mark for each
 --   Filled l x           cell x is filled, where l is the marks: "a mark that isn't zero means filled" (01, 'One tick of the run')
+--   filled? l x          whether it is
 --   filledMarks l        how many marks of l say filled
 --   put cs vs l          the list l after the first number of vs went to the first place of cs, the second to the second, and so on
 --   marked v cs l        the list l after v went to each place of cs
@@ -13,7 +14,9 @@
 use Prim.Native.Nat.{ℕ, zero, suc}
 use mathlib.Core.List.{List, [], _∷_, _++_, map}
 use mathlib.Core.Logic.{_≢_}
+use native.Mathlib.Decide.{ℕ-discrete}
 use lib.ListN.{length, getD, set, drop, replicate}
+use Rattle.kinds.specs.Decided.{opposite}
 
 pub record Memory : Type 0 where
   pub words : List ℕ
@@ -21,6 +24,9 @@ pub record Memory : Type 0 where
 
 abbrev pub Filled : List ℕ → ℕ → Type 0
 Filled l x = getD l x 0 ≢ 0
+
+abbrev pub filled? : (l : List ℕ) (x : ℕ) → Dec (Filled l x)
+filled? l x = opposite (ℕ-discrete (getD l x 0) 0)
 
 unfoldable pub filledMarks : List ℕ → ℕ
 filledMarks [] = 0

@@ -1,0 +1,91 @@
+-- Two ports that want one bank.
+--   banks-counted          where the banks are few, the number of them that the code has is 2^k
+--   bank-masked            and masking a cell's number with one less gives its bank
+--   LowestPair k cs p q    "the first such pair, lowest port first (smallest first port, then smallest second)": p and q want one bank,
+--                          no two ports that do have a smaller first, and none with the first port p have a smaller second
+--   first-pair-law         where there is a clash, the ports that a refusal names are the first such pair
+--   pair-clash             where there is a first such pair, there is a clash
+--   first-pair-named       and its ports are those that a refusal names
+--   pair-nowhere           the first pair is nowhere exactly when there is no clash
+--   pair-between           it is between two ports exactly when they are the first such pair
+use Prim.Native.Nat.{ℕ, _-_, _^_, _<_, _≤_}
+use mathlib.Core.Path.{_≡_, refl, sym, ap, _∙_}
+use mathlib.Core.List.{List}
+use mathlib.Core.Logic.{_↔_}
+use native.Mathlib.Omega.{arith}
+use lib.Bits.{bitAnd, and-mask}
+use lib.ListN.{length}
+use lib.Pow.{pow-mono}
+use Rattle.kinds.specs.Frame.{bankOf}
+use Rattle.kinds.specs.Search.{someBelow, found}
+use Rattle.kinds.specs.declared.Port.{Port}
+use Rattle.kinds.proofs.SearchLaws.{found-has, found-first, found-least}
+use Rattle.bits.specs.Word.{TwoTo}
+use Rattle.run.specs.Faults.{WantOneBank, wantOneBank?, laterPort?, Clash, clash?, firstPort, secondPort}
+use Rattle.run.specs.Inside.{mostBanks, pairFrom, firstPair}
+use Rattle.run.specs.declared.Pair.the-variants.{Nowhere, Between}
+
+module _ {k r : ℕ} (few : 2 ^ k ≤ mostBanks) (two : TwoTo k r) where
+  pub banks-counted : r ≡ 2 ^ k
+  banks-counted = let low : ¬ (32 ≤ k) = λ high. omega (arith, pow-mono high) in two .fits (omega arith)
+
+  pub bank-masked : (x : ℕ) → bitAnd x (r - 1) ≡ bankOf k x
+  bank-masked x = ap (λ (m : ℕ). bitAnd x (m - 1)) banks-counted ∙ and-mask x k
+
+pub record LowestPair (k : ℕ) (cs : List ℕ) (p q : ℕ) : Type 0 where
+  pub inside : q < length cs
+  pub one-bank : WantOneBank k cs p q
+  pub first : (i j : ℕ) → j < length cs → WantOneBank k cs i j → p ≤ i
+  pub second : (j : ℕ) → j < length cs → WantOneBank k cs p j → q ≤ j
+
+not-above : {P : ℕ → Type 0} (P? : (i : ℕ) → Dec (P i)) (n i : ℕ) → P i → found (someBelow P? n) ≤ i
+not-above P? n i p = let high : ¬ (i < found (someBelow P? n)) = λ low. found-first P? n i low p in omega arith
+
+module _ {k : ℕ} {cs : List ℕ} where
+  pub first-pair-law : Clash k cs → LowestPair k cs (firstPort k cs) (secondPort k cs)
+  first-pair-law clash =
+      let later = found-has (laterPort? k cs) (length cs) clash .1 in
+      let (inside, one-bank) = found-has (wantOneBank? k cs (firstPort k cs)) (length cs) later in
+      record {
+        inside = inside;
+        one-bank = one-bank;
+        first = λ i j h w. not-above (laterPort? k cs) (length cs) i (j, h, w);
+        second = λ j h w. not-above (wantOneBank? k cs (firstPort k cs)) (length cs) j w;
+      }
+
+  module _ {p q : ℕ} (lowest : LowestPair k cs p q) where
+    pub pair-clash : Clash k cs
+    pair-clash = (p, omega arith, (q, lowest .inside, lowest .one-bank))
+
+    first-port : firstPort k cs ≡ p
+    unfolding pair-clash
+    first-port = found-least (laterPort? k cs) (length cs) p (pair-clash .1) (pair-clash .2) (λ i l (j, h, w). omega (arith, lowest .first i j h w))
+
+    pub first-pair-named : (firstPort k cs ≡ p) × (secondPort k cs ≡ q)
+    first-pair-named = (
+      first-port,
+      rw first-port (
+          found-least (wantOneBank? k cs p) (length cs) q (lowest .inside) (lowest .one-bank) (λ j l w. omega (arith, lowest .second j (omega arith) w))),
+    )
+
+no-pair : {A : Type 0} {p q : Port} → Nowhere ≡ Between p q → A
+no-pair e = absurd (let z : _≡_ {A = ℕ} 0 1 = cc in omega arith)
+
+module _ (k : ℕ) (cs : List ℕ) where
+  nowhere : (d : Dec (Clash k cs)) → pairFrom k cs d ≡ Nowhere ↔ ¬ Clash k cs
+  nowhere (yes c) = (λ e. no-pair (sym e), λ n. absurd (n c))
+  nowhere (no n) = (λ e. n, λ _. refl)
+
+  pub pair-nowhere : firstPair k cs ≡ Nowhere ↔ ¬ Clash k cs
+  pair-nowhere = nowhere (clash? k cs)
+
+  module _ (p q : Port) where
+    between : (d : Dec (Clash k cs)) → pairFrom k cs d ≡ Between p q ↔ LowestPair k cs (p .0) (q .0)
+    between (yes c) = (
+      λ e. let first : firstPort k cs ≡ p .0 = cc in let second : secondPort k cs ≡ q .0 = cc in rw (← first, ← second) (first-pair-law c),
+      λ lowest. let (first, second) = first-pair-named lowest in rw (second, first),
+    )
+    between (no n) = (λ e. no-pair e, λ lowest. absurd (n (pair-clash lowest)))
+
+    pub pair-between : firstPair k cs ≡ Between p q ↔ LowestPair k cs (p .0) (q .0)
+    pair-between = between (clash? k cs)

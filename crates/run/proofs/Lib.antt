@@ -6,4 +6,5 @@ pub mod TableLaws
 pub mod PlaceLaws
 pub mod CountLaws
 pub mod CallLaws
+pub mod ToolLaws
 pub mod Cases

@@ -1,4 +1,5 @@
 -- Numbers that go to places of a list.
+--   same-memory            memories of the same words and marks are the same
 --   put-nil, put-cons      no place to go to; a first place and its number
 --   put-length             no place is gained or lost
 --   put-step               of the places and numbers from p on, the first goes, and then those after it
@@ -13,7 +14,10 @@ use native.Mathlib.Numerals.{add-one}
 use native.Mathlib.Omega.{arith}
 use lib.ListN.{length, getD, set, drop, replicate, length-set, length-replicate, getD-replicate, drop-of-length-le}
 use lib.Seq.{drop-cons}
-use Rattle.run.specs.Memory.{put}
+use Rattle.run.specs.Memory.{Memory, put}
+
+pub same-memory : {v w l r : List ℕ} → v ≡ w → l ≡ r → _≡_ {A = Memory} (record { words = v; marks = l }) (record { words = w; marks = r })
+same-memory e f = cc
 
 pub put-nil : (vs l : List ℕ) → put [] vs l ≡ l
 unfolding put

@@ -8,8 +8,10 @@
 --   places-clash       the cells of a tick clash exactly when two of its words have one bank
 --   places-below       they are places of the memory
 --   reads-below, writes-below      so are the cells that a call reads, and those that it writes
+--   are-places         a list of cells, each with the start of a half added, is the places of a tick
+--   are-writes, are-reads          a list that has the right length and, where that is 2^k, these places, is what a call writes, or what it reads
 use Prim.Native.Nat.{ℕ, _+_, _-_, _*_, _/_, _^_, _<_, _≤_}
-use mathlib.Core.Path.{_≡_, refl, sym, ap, _∙_}
+use mathlib.Core.Path.{_≡_, refl, sym, ap, ap₂, _∙_}
 use mathlib.Core.Bool.{Bool, true, false, cond}
 use mathlib.Core.List.{List, [], _∷_}
 use mathlib.Core.Logic.{_≢_, _↔_}
@@ -18,12 +20,12 @@ use native.Mathlib.Omega.{arith}
 use lib.Arith.{digits-lt}
 use lib.ListN.{length, getD}
 use lib.Pow.{pow-add, high}
-use Rattle.kinds.specs.Frame.{tickBits, ticks, tickOf, portOf, wordAt, bankOf}
-use Rattle.kinds.proofs.FrameLaws.{order-length, order-at}
+use Rattle.kinds.specs.Frame.{tickBits, ticks, tickOf, portOf, wordAt, bankOf, inOrder}
+use Rattle.kinds.proofs.FrameLaws.{order-length, order-at, order-is}
 use Rattle.bits.specs.Image.{AllBelow}
 use Rattle.sheet.specs.Sheet.{Side}
 use Rattle.sheet.specs.Layout.{InRange}
-use Rattle.maps.specs.Cells.{bankAt, cellOf}
+use Rattle.maps.specs.Cells.{bankAt, cellAt, cellOf}
 use Rattle.maps.proofs.CellLaws.{bank-of-cell, cell-lt, cell-word}
 use Rattle.run.specs.Faults.{Clash}
 use Rattle.run.specs.States.{reading}
@@ -98,3 +100,27 @@ module _ {n k : ℕ} {S : Side} (used : InRange n k S) (within : k ≤ n) where
   pub writes-below : (st : State) (ws : List ℕ) → st .h < 2 → AllBelow (2 ^ (n + 1)) (writesOf n k (cellOf k S) st ws)
   writes-below st [] half = λ p l. absurd (omega arith)
   writes-below st (w ∷ ws) half = places-below (st .h) (st .a) half
+
+pub are-places : (n k : ℕ) (S : Side) (h c : ℕ) {base : ℕ} {l : List ℕ} → base ≡ h * 2 ^ n → l ≡ inOrder (2 ^ k) (λ p. base + cellAt k S c p)
+    → l ≡ placesOf n k (cellOf k S) h c
+are-places n k S h c {base} {l} b e =
+    order-is (2 ^ k) (λ p. placeIn n h (cellOf k S (wordAt k c p))) l
+    (ap length e ∙ order-length (2 ^ k) _)
+    (λ p i. ap (λ (x : List ℕ). getD x p 0) e ∙ order-at (2 ^ k) _ p i ∙ ap₂ _+_ b (cell-word k S c p i))
+
+nothing : (l : List ℕ) → length l ≡ 0 → l ≡ []
+nothing [] e = refl
+nothing (x ∷ l) e = absurd (omega arith)
+
+module _ (n k : ℕ) (f : ℕ → ℕ) (st : State) (l : List ℕ) where
+  pub are-writes : (ws : List ℕ) → length ws ≡ rightTick k (length ws) → length l ≡ length ws → (length l ≡ 2 ^ k → l ≡ placesOf n k f (st .h) (st .a))
+      → l ≡ writesOf n k f st ws
+  are-writes [] right e places = nothing l e
+  are-writes (w ∷ ws) right e places = places (e ∙ right)
+
+  pub are-reads : length l ≡ cond (reading (ticks n k) st) (2 ^ k) 0 → (length l ≡ 2 ^ k → l ≡ placesOf n k f (1 - st .h) (st .r)) → l ≡ readsOf n k f st
+  are-reads e places = go (reading (ticks n k) st) e
+    where
+      go : (b : Bool) → length l ≡ cond b (2 ^ k) 0 → l ≡ cond b (placesOf n k f (1 - st .h) (st .r)) []
+      go true e = places e
+      go false e = nothing l e

@@ -1,20 +1,14 @@
 -- `run::serve` meets its contract. Nothing is changed before the first fault was looked for, and past it none applies.
-use Prim.Native.Nat.{ℕ}
-use mathlib.Core.Path.{_≡_, refl, sym, ap, _∙_}
-use mathlib.Core.List.{List}
+use mathlib.Core.Path.{refl, sym, ap, _∙_}
 use borrow.Author.Needs.{needs}
 use borrow.Author.Tests.{not-true, not-false}
-use native.Mathlib.Omega.{arith}
 use lib.ListN.{length}
 use Rattle.kinds.proofs.TruthLaws.{denied}
 use Rattle.kinds.proofs.AnswerLaws.{refuses, does}
-use Rattle.run.specs.Memory.{Memory, marked}
-use Rattle.run.proofs.MemoryLaws.{put-length}
+use Rattle.run.specs.Memory.{marked}
+use Rattle.run.proofs.MemoryLaws.{same-memory, put-length}
 use Rattle.run.proofs.serve.Statement.{statement}
 use Rattle.run.proofs.serve.Tie as tie
-
-memory : {v w l r : List ℕ} → v ≡ w → l ≡ r → _≡_ {A = Memory} (record { words = v; marks = l }) (record { words = w; marks = r })
-memory e f = cc
 
 first-fault-requires : tie.Need-first-fault-requires
 first-fault-requires c κs = search needs
@@ -54,7 +48,7 @@ returns-2 c =
     let tested = taken .before .before .before .before in
     does (tested .before .is-done .ensures .0 (not-false _ (tested .if1 .left))) (tested .before .before .first-fault .ensures) (
       taken .take-out .ensures .0,
-      memory (stored .store .ensures .0) (stored .store .ensures .1 ∙ ap (marked 1 _) (taken .take-out .ensures .1)),
+      same-memory (stored .store .ensures .0) (stored .store .ensures .1 ∙ ap (marked 1 _) (taken .take-out .ensures .1)),
     )
 
 pub serve-spec : {M : Type 1} → statement M

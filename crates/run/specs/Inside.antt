@@ -14,6 +14,7 @@ use mathlib.Core.Bool.{Bool}
 use mathlib.Core.List.{List}
 use lib.ListN.{length, getD}
 use Rattle.kinds.specs.Answers.{Says, Answers}
+use Rattle.kinds.specs.Edition.{edition1}
 use Rattle.kinds.specs.Frame.{inOrder}
 use Rattle.kinds.specs.Refusal.{said}
 use Rattle.kinds.specs.declared.Answer.{Answer}
@@ -28,7 +29,7 @@ use Rattle.run.specs.declared.Pair.{Pair}
 use Rattle.run.specs.declared.Pair.the-variants.{Nowhere, Between}
 
 abbrev pub mostPorts : ℕ
-mostPorts = 32
+mostPorts = 2 ^ edition1 .most-k
 
 abbrev pub mostBanks : ℕ
 mostBanks = 64

@@ -34,7 +34,7 @@ pub enum Ticked {
 }
 
 // Room for the ports of a tick.
-const PORTS: usize = 32;
+const PORTS: usize = 1 << kinds::MOST_K;
 
 // One call: the words that came, none of them on a blank tick, go in, and a tick of the frame before goes out. 1, 2, 5 and 10 to 14.
 pub fn tick(
@@ -58,14 +58,14 @@ pub fn tick(
         return Ticked::Refused(refusal);
     }
     let ticks = bits::two_to(n - k);
-    if !possible(state, ticks) {
+    if !state.possible(ticks) {
         return Ticked::Refused(Refusal::State);
     }
     let half = bits::two_to(n);
     let into = state.h * half;
     let from = (1 - state.h) * half;
     let written = came.len();
-    let read = leaving(state, ticks, out.len());
+    let read = state.leaving(ticks, out.len());
     let mut writes = [0; PORTS];
     let mut reads = [0; PORTS];
     places(sides.write, Tick(state.a), into, &mut writes[0..written]);
@@ -82,7 +82,7 @@ pub fn tick(
     if let Answer::Refused(refusal) = served {
         return Ticked::Refused(refusal);
     }
-    Ticked::Done(next(state, ticks, came), state.r < ticks)
+    Ticked::Done(state.next(ticks, came), state.r < ticks)
 }
 
 // A frame of n beyond 63 has more places than any length.
@@ -107,29 +107,70 @@ fn lengths_fit(n: u32, k: u32, came: usize, out: usize, words: usize, marks: usi
     bits::is_two_to(came, k)
 }
 
-fn possible(state: State, ticks: u32) -> bool
-    ensures { λ r. ⌜ Says r (Possible ticks state) ⌝ }
-{
-    if ticks <= state.a {
-        return false;
+impl State {
+    fn possible(self, ticks: u32) -> bool
+        ensures { λ r. ⌜ Says r (Possible ticks self) ⌝ }
+    {
+        if ticks <= self.a {
+            return false;
+        }
+        if self.r < self.a {
+            return false;
+        }
+        if ticks < self.r {
+            return false;
+        }
+        self.h < 2
     }
-    if state.r < state.a {
-        return false;
-    }
-    if ticks < state.r {
-        return false;
-    }
-    state.h < 2
-}
 
-// How many words leave in this call.
-fn leaving(state: State, ticks: u32, ports: usize) -> usize
-    ensures { λ r. ⌜ r ≡ cond (reading ticks state) ports 0 ⌝ }
-{
-    if state.r < ticks {
-        return ports;
+    // How many words leave in this call.
+    fn leaving(self, ticks: u32, ports: usize) -> usize
+        ensures { λ r. ⌜ r ≡ cond (reading ticks self) ports 0 ⌝ }
+    {
+        if self.r < ticks {
+            return ports;
+        }
+        0
     }
-    0
+
+    // The state after a call: the reader goes on, blank tick or not, and the tick that completes a frame turns the halves.
+    fn next(self, ticks: u32, came: &[u32]) -> State
+        requires { ⌜ Possible ticks self ⌝ }
+        ensures { λ r. ⌜ r ≡ nextState ticks self (now (came .entry)) ⌝ }
+    {
+        let read = self.after_read(ticks);
+        if came.len() == 0 {
+            return read;
+        }
+        let a = read.a + 1;
+        let other = 1 - read.h;
+        if a == ticks {
+            return State {
+                a: 0,
+                h: other,
+                r: 0,
+            };
+        }
+        State {
+            a,
+            h: read.h,
+            r: read.r,
+        }
+    }
+
+    fn after_read(self, ticks: u32) -> State
+        ensures { λ r. ⌜ r ≡ afterRead ticks self ⌝ }
+    {
+        if self.r < ticks {
+            let r = self.r + 1;
+            return State {
+                a: self.a,
+                h: self.h,
+                r,
+            };
+        }
+        self
+    }
 }
 
 // The cells of a tick, as places of the memory.
@@ -307,45 +348,5 @@ fn store(cells: &[u32], came: &[u32], words: &mut [u32], marks: &mut [u8])
         words[at] = came[p];
         marks[at] = 1;
         p += 1;
-    }
-}
-
-impl State {
-    fn after_read(self, ticks: u32) -> State
-        ensures { λ r. ⌜ r ≡ afterRead ticks self ⌝ }
-    {
-        if self.r < ticks {
-            let r = self.r + 1;
-            return State {
-                a: self.a,
-                h: self.h,
-                r,
-            };
-        }
-        self
-    }
-}
-
-fn next(state: State, ticks: u32, came: &[u32]) -> State
-    requires { ⌜ Possible ticks state ⌝ }
-    ensures { λ r. ⌜ r ≡ nextState ticks state (now (came .entry)) ⌝ }
-{
-    let read = state.after_read(ticks);
-    if came.len() == 0 {
-        return read;
-    }
-    let a = read.a + 1;
-    let other = 1 - read.h;
-    if a == ticks {
-        return State {
-            a: 0,
-            h: other,
-            r: 0,
-        };
-    }
-    State {
-        a,
-        h: read.h,
-        r: read.r,
     }
 }

@@ -1,7 +1,7 @@
--- `run::leaving` meets its contract.
+-- `run::State::leaving` meets its contract.
 use borrow.Author.Tests.{lt-ltb, le-ltb}
-use Rattle.run.proofs.leaving.Statement.{statement}
-use Rattle.run.proofs.leaving.Tie as tie
+use Rattle.run.proofs.State.leaving.Statement.{statement}
+use Rattle.run.proofs.State.leaving.Tie as tie
 
 returns : tie.Need-returns
 returns c = rw (lt-ltb _ _ (c .if1 .taken))

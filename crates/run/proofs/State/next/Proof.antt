@@ -1,4 +1,4 @@
--- `run::next` meets its contract. The read leaves a and h as they were, so that a blank tick completes no frame.
+-- `run::State::next` meets its contract. The read leaves a and h as they were, so that a blank tick completes no frame.
 use Prim.Native.Nat.{ℕ, _+_, _-_, _<_}
 use mathlib.Core.Path.{_≡_, refl, ap, _∙_}
 use mathlib.Core.Bool.{Bool, true, false, cond}
@@ -12,8 +12,8 @@ use native.Mathlib.Nat.{ne-of-lt}
 use native.Mathlib.Omega.{arith}
 use Rattle.run.specs.States.{afterRead, afterWrite, turned, next as nextState}
 use Rattle.run.specs.declared.State.{State}
-use Rattle.run.proofs.next.Statement.{statement}
-use Rattle.run.proofs.next.Tie as tie
+use Rattle.run.proofs.State.next.Statement.{statement}
+use Rattle.run.proofs.State.next.Tie as tie
 
 same-a : (b : Bool) (x y : State) → x .a ≡ y .a → cond b x y .a ≡ y .a
 same-a true x y e = e
@@ -56,12 +56,12 @@ module _ (c : tie.After-after-read) where
   x = c .after-read .result
 
   incoming : x .a < T
-  incoming = omega (arith, begin .pre .incoming, ap (λ (st : State). st .a) (c .after-read .ensures), read-a T (begin .args .state))
+  incoming = omega (arith, begin .pre .incoming, ap (λ (st : State). st .a) (c .after-read .ensures), read-a T (begin .args .self))
 
   half : x .h < 2
-  half = omega (arith, begin .pre .half, ap (λ (st : State). st .h) (c .after-read .ensures), read-h T (begin .args .state))
+  half = omega (arith, begin .pre .half, ap (λ (st : State). st .h) (c .after-read .ensures), read-h T (begin .args .self))
 
-  then : turned T (afterWrite x ws) ≡ nextState T (begin .args .state) ws
+  then : turned T (afterWrite x ws) ≡ nextState T (begin .args .self) ws
   then = ap (λ (st : State). turned T (afterWrite st ws)) (c .after-read .ensures)
 
 after-read-requires : tie.Need-after-read-requires

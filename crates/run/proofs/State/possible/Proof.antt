@@ -1,9 +1,9 @@
--- `run::possible` meets its contract.
+-- `run::State::possible` meets its contract.
 use borrow.Author.Tests.{ltb-true, lt-ltb}
 use native.Mathlib.Omega.{arith}
 use Rattle.kinds.proofs.TruthLaws.{says-no}
-use Rattle.run.proofs.possible.Statement.{statement}
-use Rattle.run.proofs.possible.Tie as tie
+use Rattle.run.proofs.State.possible.Statement.{statement}
+use Rattle.run.proofs.State.possible.Tie as tie
 
 returns : tie.Need-returns
 returns c = says-no (λ p. omega (arith, p .incoming))

@@ -5,6 +5,7 @@
 --   lowest-skip     a first reason that doesn't leaves the rest to decide
 --   lowest-append   a table after another decides where that one gives nothing
 --   lowest-before   what a table gives, it gives with another after it
+--   lowest-after    where a table and another after it give nothing, that other gives nothing
 --   lowest-none     nothing is given exactly when no reason applies
 --   lowest-first    what is given is the first that applies, and nothing else
 --   lowest-law      of a table with ascending numbers, what is given is the lowest that applies, and nothing else
@@ -67,6 +68,10 @@ lowest-before (r ∷ s) t {x} e = go (lowest-before s t) (r .decided)
     go : (lowest s ≡ some x → lowest (s ++ t) ≡ some x) → Dec (r .applies) → lowest (r ∷ s ++ t) ≡ some x
     go rest (yes a) = lowest-take r (s ++ t) a ∙ sym (lowest-take r s a) ∙ e
     go rest (no n) = lowest-skip r (s ++ t) n ∙ rest (sym (lowest-skip r s n) ∙ e)
+
+pub lowest-after : (s t : List Reason) → lowest (s ++ t) ≡ none → lowest t ≡ none
+lowest-after [] t e = e
+lowest-after (r ∷ s) t e = lowest-after s t (sym (lowest-skip r (s ++ t) (none-each (r ∷ s ++ t) e .0)) ∙ e)
 
 given-first : (t : List Reason) (x : Refusal) → lowest t ≡ some x → FirstThatApplies t x
 given-first [] x e = none-some (sym lowest-nil ∙ e)

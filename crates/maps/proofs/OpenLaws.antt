@@ -194,11 +194,11 @@ module _ {e : Edition} {n k : ℕ} {s : List ℕ} {fits : Bool} (r q : Opened) (
           let f = sym said-alike ∙ d in
           alike said-alike (a .refused x d .0 ∙ sym (b .refused x f .0)) (a .refused x d .1 ∙ sym (b .refused x f .1))
 
-pub lists-unique : {n k : ℕ} {o : OpenSide} {S : Side} {c : ℕ} (out a b : List ℕ) (r q : Answer) → Shows n k o S
+pub lists-unique : {n k : ℕ} {o : OpenSide} {S : Side} (c : ℕ) (out a b : List ℕ) (r q : Answer) → Shows n k o S
     → ListsCells o c out a r → ListsCells o c out b q → (r ≡ q) × (a ≡ b)
-lists-unique {n} {k} {o} {S} out a b r q h p w =
+lists-unique {n} {k} {o} {S} c out a b r q h p w =
     let x = p n k S h in
     let y = w n k S h in (
       said-same r q (answers-same x y),
-      answers-agree x y (λ _ u v. ext-getD 0 a b (u .whole ∙ sym (v .whole)) (λ j l. u .each j (omega (arith, u .whole)) ∙ sym (v .each j (omega (arith, u .whole))))) (λ e f. e ∙ sym f),
+      answers-agree x y (λ _ u v. u ∙ sym v) (λ e f. e ∙ sym f),
     )

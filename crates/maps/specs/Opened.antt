@@ -10,14 +10,14 @@
 --   IsBank o c p r               r is its bank
 --   IsCell o c p r               r is its cell
 --   AreColumns o r               r is the columns of that side's map, and zeros after them
---   CellsOfTick k S c l          l is the cells of tick c, by port
---   ListsCells o c out out' r    all cells of one tick into a lent buffer, which has 2^k places or is refused: done, out' is these; refused, out as it came
-use Prim.Native.Nat.{ℕ, _-_, _^_, _<_, _≤_}
+--   ListsCells o c out out' r    all cells of one tick into a lent buffer, which has 2^k places or is refused: done, out' is these, by port; refused, out as it came
+use Prim.Native.Nat.{ℕ, _-_, _^_, _≤_}
 use mathlib.Core.Path.{_≡_}
 use mathlib.Core.Bool.{Bool}
 use mathlib.Core.List.{List, [], _∷_, _++_}
-use lib.ListN.{length, getD, replicate}
+use lib.ListN.{length, replicate}
 use Rattle.kinds.specs.Edition.{Edition}
+use Rattle.kinds.specs.Frame.{inOrder}
 use Rattle.kinds.specs.Refusal.{said}
 use Rattle.kinds.specs.Reasons.{wrongLength}
 use Rattle.kinds.specs.Answers.{Checks, Answers}
@@ -77,11 +77,7 @@ IsCell o c p r = (n k : ℕ) (S : Side) → Shows n k o S → r ≡ cellAt k S c
 abbrev pub AreColumns : OpenSide → List ℕ → Type 0
 AreColumns o r = (n k : ℕ) (S : Side) → Shows n k o S → r ≡ padded (cellColumns n k S)
 
-pub record CellsOfTick (k : ℕ) (S : Side) (c : ℕ) (l : List ℕ) : Type 0 where
-  pub whole : length l ≡ 2 ^ k
-  pub each : (p : ℕ) → p < 2 ^ k → getD l p 0 ≡ cellAt k S c p
-
 abbrev pub ListsCells : OpenSide → ℕ → List ℕ → List ℕ → Answer → Type 0
 ListsCells o c out out' r =
     (n k : ℕ) (S : Side) → Shows n k o S
-    → Answers (wrongLength ((length out, 2 ^ k) ∷ []) ∷ []) (said r) (CellsOfTick k S c out') (out' ≡ out)
+    → Answers (wrongLength ((length out, 2 ^ k) ∷ []) ∷ []) (said r) (out' ≡ inOrder (2 ^ k) (cellAt k S c)) (out' ≡ out)

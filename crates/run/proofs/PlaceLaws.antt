@@ -21,7 +21,7 @@ use lib.Arith.{digits-lt}
 use lib.ListN.{length, getD}
 use lib.Pow.{pow-add, high}
 use Rattle.kinds.specs.Frame.{tickBits, ticks, tickOf, portOf, wordAt, bankOf, inOrder}
-use Rattle.kinds.proofs.FrameLaws.{order-length, order-at, order-is}
+use Rattle.kinds.proofs.FrameLaws.{in-order-length, in-order-at, in-order-is}
 use Rattle.bits.specs.Image.{AllBelow}
 use Rattle.sheet.specs.Sheet.{Side}
 use Rattle.sheet.specs.Layout.{InRange}
@@ -44,10 +44,10 @@ halves-apart n {g} {h} l r differ same = differ (sym (high g n l) ∙ ap (λ (i 
 
 module _ (n k : ℕ) (f : ℕ → ℕ) where
   pub places-at : (h c p : ℕ) → p < 2 ^ k → getD (placesOf n k f h c) p 0 ≡ placeIn n h (f (wordAt k c p))
-  places-at h c = order-at (2 ^ k) (λ p. placeIn n h (f (wordAt k c p)))
+  places-at h c = in-order-at (2 ^ k) (λ p. placeIn n h (f (wordAt k c p)))
 
   places-length : (h c : ℕ) → length (placesOf n k f h c) ≡ 2 ^ k
-  places-length h c = order-length (2 ^ k) (λ p. placeIn n h (f (wordAt k c p)))
+  places-length h c = in-order-length (2 ^ k) (λ p. placeIn n h (f (wordAt k c p)))
 
   pub reads-length : (st : State) → length (readsOf n k f st) ≡ cond (reading (ticks n k) st) (2 ^ k) 0
   reads-length st = go (reading (ticks n k) st)
@@ -104,9 +104,9 @@ module _ {n k : ℕ} {S : Side} (used : InRange n k S) (within : k ≤ n) where
 pub are-places : (n k : ℕ) (S : Side) (h c : ℕ) {base : ℕ} {l : List ℕ} → base ≡ h * 2 ^ n → l ≡ inOrder (2 ^ k) (λ p. base + cellAt k S c p)
     → l ≡ placesOf n k (cellOf k S) h c
 are-places n k S h c {base} {l} b e =
-    order-is (2 ^ k) (λ p. placeIn n h (cellOf k S (wordAt k c p))) l
-    (ap length e ∙ order-length (2 ^ k) _)
-    (λ p i. ap (λ (x : List ℕ). getD x p 0) e ∙ order-at (2 ^ k) _ p i ∙ ap₂ _+_ b (cell-word k S c p i))
+    in-order-is (2 ^ k) (λ p. placeIn n h (cellOf k S (wordAt k c p))) l
+    (ap length e ∙ in-order-length (2 ^ k) _)
+    (λ p i. ap (λ (x : List ℕ). getD x p 0) e ∙ in-order-at (2 ^ k) _ p i ∙ ap₂ _+_ b (cell-word k S c p i))
 
 nothing : (l : List ℕ) → length l ≡ 0 → l ≡ []
 nothing [] e = refl

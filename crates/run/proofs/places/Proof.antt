@@ -10,7 +10,7 @@ use lib.ListN.{length, getD, take, drop, set, replicate, length-append, length-s
 use lib.Seq.{getD-set-same, getD-set-other}
 use Rattle.kinds.specs.declared.Answer.{Answer}
 use Rattle.kinds.proofs.LowestLaws.{lowest-none}
-use Rattle.kinds.proofs.FrameLaws.{order-is}
+use Rattle.kinds.proofs.FrameLaws.{in-order-is}
 use Rattle.maps.specs.Cells.{cellAt}
 use Rattle.maps.specs.Opened.{ListsCells}
 use Rattle.maps.specs.declared.OpenSide.{OpenSide}
@@ -44,7 +44,7 @@ module _ {base : ℕ} {places₀ listed places : List ℕ} {p : ℕ} (i : Placin
   done {c = c} r whole lists is end n k S shows e =
       let answer = lists n k S shows in
       let tick = answer .done (answer .lowest-of ∙ lowest-none _ .1 (λ wrong. wrong (whole ∙ e, tt), tt)) in
-      order-is (2 ^ k) (λ q. base + cellAt k S c q) places (i .same ∙ e)
+      in-order-is (2 ^ k) (λ q. base + cellAt k S c q) places (i .same ∙ e)
       (λ q h. i .each q (omega (arith, e)) ∙ rw (is, tick .each q h))
 
 abbrev Inv-loop : tie.InvT-loop

@@ -16,6 +16,7 @@ use Rattle.kinds.specs.Reasons.{wrongLength}
 use Rattle.kinds.specs.declared.Answer.the-variants.{Done, Refused}
 use Rattle.kinds.specs.declared.Refusal.the-variants.{Length}
 use Rattle.kinds.proofs.TruthLaws.{denied}
+use Rattle.kinds.proofs.FrameLaws.{in-order-is}
 use Rattle.kinds.proofs.LowestLaws.{lowest-take, lowest-none}
 use Rattle.kinds.proofs.AnswerLaws.{not-both, refuses, does}
 use Rattle.bits.proofs.ImageLaws.{image-zero}
@@ -88,10 +89,8 @@ right {o} {came} {out} {first} c i end cell n k S h =
     let kept = length-set came 0 first in
     let all : length came ≡ 2 ^ k = sym kept ∙ i .whole ∙ ap (λ (x : ℕ). 2 ^ x) (shown-k h) in
     let there : getD (set came 0 first) 0 0 ≡ first = getD-set-same came 0 first 0 (omega (arith, all, pow-pos k)) in
-    does refl (sym (lowest-none (wrongLength ((length came, 2 ^ k) ∷ []) ∷ []) .1 (λ wrong. wrong (all, tt), tt))) (record {
-      whole = i .same ∙ kept ∙ all;
-      each = λ p l. i .each c (rw there cell) p (omega (arith, all, kept, i .same)) n k S h;
-    })
+    does refl (sym (lowest-none (wrongLength ((length came, 2 ^ k) ∷ []) ∷ []) .1 (λ wrong. wrong (all, tt), tt)))
+    (in-order-is (2 ^ k) (cellAt k S c) out (i .same ∙ kept ∙ all) (λ p l. i .each c (rw there cell) p (omega (arith, all, kept, i .same)) n k S h))
 
 abbrev Inv-loop : tie.InvT-loop
 Inv-loop out₀ self filled₀ j₀ out filled j = Listing self out₀ out filled j

@@ -3,12 +3,14 @@
 --   call-given       the refusal of a call is what its table gives
 --   call-refused     a refused call changes nothing
 --   call-done        a call that is not refused is carried out
---   call-sound       where a call with a sheet is not refused, nothing was wrong
---   call-possible    then the state after it is possible
---   call-filled      and the filled marks have grown by the words that came, 2^k or none, and shrunk by those that were handed out, 2^k or none, whatever the sheet
-use Prim.Native.Nat.{ℕ, _+_, _^_, _<_, _≤_}
+--   call-idle        a call that hands out no tick hands out no words
+--   call-possible    after a call that is not refused a possible state is possible
+--   call-filled      and the filled marks have grown by the words that came, 2^k or none, and shrunk by those that were handed out, 2^k or none
+--   sheet-call-sound               where a call with a sheet is not refused, nothing was wrong
+--   sheet-call-possible, sheet-call-filled      so both hold of it, whatever the sheet
+use Prim.Native.Nat.{ℕ, _+_, _-_, _^_, _<_, _≤_}
 use mathlib.Core.Path.{_≡_, refl, sym, ap, _∙_}
-use mathlib.Core.Bool.{cond}
+use mathlib.Core.Bool.{Bool, true, false, cond}
 use mathlib.Core.List.{List, [], _∷_, _++_}
 use mathlib.Core.Option.{Option, none, some}
 use native.Mathlib.Decide.{ℕ-discrete, decLt}
@@ -19,16 +21,18 @@ use Rattle.kinds.specs.Edition.{Edition}
 use Rattle.kinds.specs.Frame.{ticks}
 use Rattle.kinds.specs.Lowest.{Reason, lowest}
 use Rattle.kinds.specs.declared.Refusal.{Refusal}
+use Rattle.kinds.proofs.TruthLaws.{false≢true}
+use Rattle.kinds.proofs.LowestLaws.{lowest-none, lowest-after}
 use Rattle.bits.specs.Image.{AllBelow}
 use Rattle.maps.specs.Cells.{M, N}
-use Rattle.run.specs.Memory.{Memory, filledMarks, Access}
+use Rattle.run.specs.Memory.{Memory, filledMarks, wordsAt}
 use Rattle.run.specs.Faults.{faults}
-use Rattle.run.specs.States.{Possible, afterWrite, turned, next}
-use Rattle.run.specs.Call.{readsOf, writesOf, accessOf, Outcome, carriedOut, refused, outcome, call}
+use Rattle.run.specs.States.{Possible, reading, afterWrite, turned, next}
+use Rattle.run.specs.Call.{placesOf, readsOf, writesOf, accessOf, Outcome, carriedOut, refused, outcome, call}
 use Rattle.run.specs.Tool.{rightTick, beforeFaults, sheetCall}
 use Rattle.run.specs.declared.State.{State}
-use Rattle.run.proofs.TableLaws.{runTable, Sound, run-sound}
-use Rattle.run.proofs.PlaceLaws.{reads-length, writes-length, reads-below, writes-below}
+use Rattle.run.proofs.TableLaws.{Sound, run-sound}
+use Rattle.run.proofs.PlaceLaws.{reads-length, writes-length, cell-into, reads-below, writes-below}
 use Rattle.run.proofs.CountLaws.{apart, served-filled}
 
 module _ (T : ℕ) where
@@ -46,57 +50,83 @@ module _ (T : ℕ) where
   ]
 
 module _ (t : List Reason) (n k : ℕ) (f g : ℕ → ℕ) (st : State) (ws : List ℕ) (m : Memory) where
-  abbrev given : Option Refusal
-  given = lowest (t ++ faults k (writesOf n k f st ws) (readsOf n k g st) (m .marks))
+  abbrev writes : List ℕ
+  writes = writesOf n k f st ws
 
-  pub call-given : call t n k f g st ws m .refusal ≡ given
-  call-given = go given
+  abbrev reads : List ℕ
+  reads = readsOf n k g st
+
+  abbrev this : Outcome
+  this = call t n k f g st ws m
+
+  comes : {o : Option Refusal} → lowest (t ++ faults k writes reads (m .marks)) ≡ o → this ≡ outcome o n k f g st ws m
+  comes e = ap (λ (o : Option Refusal). outcome o n k f g st ws m) e
+
+  pub call-given : this .refusal ≡ lowest (t ++ faults k writes reads (m .marks))
+  call-given = go (lowest (t ++ faults k writes reads (m .marks)))
     where
       go : (o : Option Refusal) → outcome o n k f g st ws m .refusal ≡ o
       go none = refl
       go (some x) = refl
 
-  pub call-refused : {x : Refusal} → given ≡ some x → call t n k f g st ws m ≡ refused x st m
-  call-refused e = ap (λ (o : Option Refusal). outcome o n k f g st ws m) e
+  pub call-refused : {x : Refusal} → this .refusal ≡ some x → this ≡ refused x st m
+  call-refused e = comes (sym call-given ∙ e)
 
-  pub call-done : given ≡ none → call t n k f g st ws m ≡ carriedOut n k f g st ws m
-  call-done e = ap (λ (o : Option Refusal). outcome o n k f g st ws m) e
+  pub call-done : this .refusal ≡ none → this ≡ carriedOut n k f g st ws m
+  call-done e = comes (sym call-given ∙ e)
 
-module _ (e : Edition) (n k : ℕ) (s : List ℕ) (st : State) (ws : List ℕ) (m : Memory) (out : List ℕ) where
-  abbrev access : Access
-  access = accessOf n k (M e n k s) (N e n k s) st ws
+  pub call-idle : this .handed ≡ false → this .leaving ≡ []
+  call-idle = go (lowest (t ++ faults k writes reads (m .marks)))
+    where
+      nothing : (b : Bool) → b ≡ false → wordsAt (cond b (placesOf n k g (1 - st .h) (st .r)) []) (m .words) ≡ []
+      nothing true e = false≢true (sym e)
+      nothing false e = refl
 
-  abbrev this : Outcome
-  this = sheetCall e n k s st ws m out
+      go : (o : Option Refusal) → outcome o n k f g st ws m .handed ≡ false → outcome o n k f g st ws m .leaving ≡ []
+      go none = nothing (reading (ticks n k) st)
+      go (some x) = λ _. refl
 
   module _ (ok : this .refusal ≡ none) where
-    none-given : lowest (runTable e n k s st ws m out) ≡ none
-    none-given = sym (call-given (beforeFaults e n k s st ws m out) n k (M e n k s) (N e n k s) st ws m) ∙ ok
+    pub call-possible : Possible (ticks n k) st → Possible (ticks n k) (this .state)
+    call-possible possible = rw (call-done ok) (next-possible (ticks n k) st ws possible)
 
-    carried : this ≡ carriedOut n k (M e n k s) (N e n k s) st ws m
-    carried = call-done (beforeFaults e n k s st ws m out) n k (M e n k s) (N e n k s) st ws m none-given
+    pub call-filled : ((i : ℕ) → f i < 2 ^ n) → ((i : ℕ) → g i < 2 ^ n) → st .h < 2 → length (m .marks) ≡ 2 ^ (n + 1) → length ws ≡ rightTick k (length ws)
+        → filledMarks (this .memory .marks) + cond (this .handed) (2 ^ k) 0 ≡ filledMarks (m .marks) + length ws
+    call-filled into from half marks came =
+        let (clash, (filled, (crossed, (empty, _)))) = lowest-none (faults k writes reads (m .marks)) .0 (lowest-after t _ (sym call-given ∙ ok)) in
+        let written : AllBelow (length (m .marks)) writes = rw marks (writes-below n k f into st ws half) in
+        let taken : AllBelow (length (m .marks)) reads = rw marks (reads-below n k g from st) in
+        rw (call-done ok) (
+        omega (
+          arith,
+          served-filled (accessOf n k f g st ws) m (apart k writes clash) (apart k reads crossed) written taken filled empty,
+          reads-length n k g st,
+          writes-length n k f st ws,
+          came,
+        )
+        )
 
-    pub call-sound : Sound e n k s st ws m out
-    call-sound = run-sound e n k s st ws m out .0 none-given
+module _ (e : Edition) (n k : ℕ) (s : List ℕ) (st : State) (ws : List ℕ) (m : Memory) (out : List ℕ) where
+  abbrev before : List Reason
+  before = beforeFaults e n k s st ws m out
 
-    pub call-possible : Possible (ticks n k) (this .state)
-    call-possible = rw carried (next-possible (ticks n k) st ws (call-sound .possible))
+  abbrev sheet-call : Outcome
+  sheet-call = sheetCall e n k s st ws m out
 
-    pub call-filled : (filledMarks (this .memory .marks) + cond (this .handed) (2 ^ k) 0 ≡ filledMarks (m .marks) + length ws)
+  module _ (ok : sheet-call .refusal ≡ none) where
+    pub sheet-call-sound : Sound e n k s st ws m out
+    sheet-call-sound = run-sound e n k s st ws m out .0 (sym (call-given before n k (M e n k s) (N e n k s) st ws m) ∙ ok)
+
+    pub sheet-call-possible : Possible (ticks n k) (sheet-call .state)
+    sheet-call-possible = call-possible before n k (M e n k s) (N e n k s) st ws m ok (sheet-call-sound .possible)
+
+    pub sheet-call-filled : (filledMarks (sheet-call .memory .marks) + cond (sheet-call .handed) (2 ^ k) 0 ≡ filledMarks (m .marks) + length ws)
         × (length ws ≡ rightTick k (length ws))
-    call-filled =
-        let sound = call-sound in
+    sheet-call-filled =
+        let sound = sheet-call-sound in
         let (_, (came, (_, (_, (marks, _))))) = sound .right in
-        let within : k ≤ n = omega (arith, sound .sized .most) in
-        let written : AllBelow (length (m .marks)) (access .writes) = rw marks (writes-below (sound .formed .write .used) within st ws (sound .possible .half)) in
-        let taken : AllBelow (length (m .marks)) (access .reads) = rw marks (reads-below (sound .formed .read .used) within st) in
-        rw carried (
-          omega (
-            arith,
-            served-filled access m (apart k (access .writes) (sound .writes-apart)) (apart k (access .reads) (sound .reads-apart)) written taken (sound .writes-empty) (sound .reads-filled),
-            reads-length n k (N e n k s) st,
-            writes-length n k (M e n k s) st ws,
-            came,
-          ),
+        let within : k ≤ n = omega (arith, sound .sized .most) in (
+          call-filled before n k (M e n k s) (N e n k s) st ws m ok (cell-into (sound .formed .write .used) within) (cell-into (sound .formed .read .used) within) (sound .possible .half)
+              marks came,
           came,
         )

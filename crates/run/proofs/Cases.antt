@@ -38,14 +38,14 @@ zeros n = replicate n 0
 abbrev state : ℕ → ℕ → ℕ → State
 state a h r = record { a = a; h = h; r = r }
 
-abbrev blank : ℕ → Memory
-blank n = record { words = zeros n; marks = zeros n }
+abbrev zeroed : ℕ → Memory
+zeroed n = record { words = zeros n; marks = zeros n }
 
 -- a call at bit reversal
 abbrev reversing : State → List ℕ → Memory → Outcome
 reversing st ws m = sheetCall edition1 3 1 reversal st ws m (zeros 2)
 
-first : reversing (state 0 0 4) (10 ∷ 11 ∷ []) (blank 16) ≡ record {
+first : reversing (state 0 0 4) (10 ∷ 11 ∷ []) (zeroed 16) ≡ record {
   refusal = none;
   state = state 1 0 4;
   handed = false;
@@ -64,7 +64,7 @@ series (ws ∷ more) st m =
     (o .leaving ∷ outs, last, left)
 
 -- A blank tick pauses the frame that comes in, and the frame that was completed leaves from the next call on, blank or not, as 01's listing has it. Emptied cells keep their words.
-listing : series ((0 ∷ 1 ∷ []) ∷ (2 ∷ 3 ∷ []) ∷ [] ∷ (4 ∷ 5 ∷ []) ∷ (6 ∷ 7 ∷ []) ∷ (10 ∷ 11 ∷ []) ∷ [] ∷ [] ∷ (12 ∷ 13 ∷ []) ∷ [] ∷ []) (state 0 0 4) (blank 16) ≡ (
+listing : series ((0 ∷ 1 ∷ []) ∷ (2 ∷ 3 ∷ []) ∷ [] ∷ (4 ∷ 5 ∷ []) ∷ (6 ∷ 7 ∷ []) ∷ (10 ∷ 11 ∷ []) ∷ [] ∷ [] ∷ (12 ∷ 13 ∷ []) ∷ [] ∷ []) (state 0 0 4) (zeroed 16) ≡ (
   replicate 5 [] ++ ((0 ∷ 4 ∷ []) ∷ (2 ∷ 6 ∷ []) ∷ (1 ∷ 5 ∷ []) ∷ (3 ∷ 7 ∷ []) ∷ [] ∷ []),
   state 2 1 4,
   record {
@@ -84,7 +84,7 @@ unfolding computed
 numbers = refl
 
 -- at n 2, k 2, write wiring 1 1 and read wiring 0 0
-clashes : map (λ (r, ws). sheetCall edition1 2 2 (set (set (zeros 64) 10 1) 11 1) (state 0 0 r) ws (blank 8) (zeros 4) .refusal) ((1, zeros 4) ∷ (0, []) ∷ [])
+clashes : map (λ (r, ws). sheetCall edition1 2 2 (set (set (zeros 64) 10 1) 11 1) (state 0 0 r) ws (zeroed 8) (zeros 4) .refusal) ((1, zeros 4) ∷ (0, []) ∷ [])
     ≡ some (WriteClash (record { 0 = 0 }) (record { 0 = 3 })) ∷ some (ReadClash (record { 0 = 0 }) (record { 0 = 1 })) ∷ []
 unfolding computed
 clashes = refl

@@ -1,11 +1,8 @@
 -- Marks and words that are put in places.
 --   put-other       a place that nothing was put in keeps its content
---   set-filled      one mark changed: the filled marks lose the old one and gain the new
 --   Different cs    the places of cs are different
 --   apart           cells that don't clash are different
---   marks-filled    marking empty cells adds as many filled marks
---   marks-emptied   clearing filled cells takes as many away
---   served-filled   a call that reads filled cells and writes empty ones does both
+--   served-filled   a call that writes empty cells and reads filled ones adds as many filled marks as it writes, and takes away as many as it reads
 use Prim.Native.Nat.{ℕ, zero, suc, _+_, _*_, _<_}
 use mathlib.Core.Path.{_≡_, refl, sym, ap, _∙_}
 use mathlib.Core.List.{List, [], _∷_}
@@ -29,7 +26,7 @@ put-other (x ∷ cs) [] l y other = refl
 put-other (x ∷ cs) (v ∷ vs) l y other =
     put-other cs vs (set l x v) y (λ p h. other (suc p) (omega arith)) ∙ getD-set-other l x y v 0 (λ e. other 0 (omega arith) (sym e))
 
-pub set-filled : (l : List ℕ) (x v : ℕ) → x < length l → filledMarks (set l x v) + filledMarks (getD l x 0 ∷ []) ≡ filledMarks l + filledMarks (v ∷ [])
+set-filled : (l : List ℕ) (x v : ℕ) → x < length l → filledMarks (set l x v) + filledMarks (getD l x 0 ∷ []) ≡ filledMarks l + filledMarks (v ∷ [])
 unfolding filledMarks
 set-filled [] x v h = absurd (omega arith)
 set-filled (zero ∷ l) zero zero h = refl
@@ -69,12 +66,12 @@ mark-of zero h = absurd (h refl)
 mark-of (suc v) h = refl
 
 module _ (cs l : List ℕ) (different : Different cs) (inside : AllBelow (length l) cs) where
-  pub marks-filled : ¬ SomeFilled l cs → filledMarks (marked 1 cs l) ≡ filledMarks l + length cs
+  marks-filled : ¬ SomeFilled l cs → filledMarks (marked 1 cs l) ≡ filledMarks l + length cs
   unfolding filledMarks
   marks-filled empty =
       omega (arith, marks-changed 0 1 cs l different inside (λ p h. rw (stable (ℕ-discrete (getD l (getD cs p 0) 0) 0) (λ filled. empty (p, h, filled)))))
 
-  pub marks-emptied : ¬ SomeEmpty l cs → filledMarks (marked 0 cs l) + length cs ≡ filledMarks l
+  marks-emptied : ¬ SomeEmpty l cs → filledMarks (marked 0 cs l) + length cs ≡ filledMarks l
   unfolding filledMarks
   marks-emptied filled =
       omega (arith, marks-changed 1 0 cs l different inside (λ p h. mark-of (getD l (getD cs p 0) 0) (λ e. filled (p, h, λ f. f e))))

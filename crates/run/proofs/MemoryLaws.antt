@@ -1,8 +1,6 @@
 -- Numbers that go to places of a list.
 --   same-memory            memories of the same words and marks are the same
---   put-nil, put-cons      no place to go to; a first place and its number
 --   put-length             no place is gained or lost
---   put-step               of the places and numbers from p on, the first goes, and then those after it
 --   Putting cs vs l₀ l p   l is l₀ after the first p numbers went: those that are left make of l what all of them make of l₀. There is a number for each place
 --   put-start, put-more, put-done      before the first; after one more; after the last
 --   Marking v cs l₀ l p    the same, where each number is v
@@ -19,11 +17,11 @@ use Rattle.run.specs.Memory.{Memory, put}
 pub same-memory : {v w l r : List ℕ} → v ≡ w → l ≡ r → _≡_ {A = Memory} (record { words = v; marks = l }) (record { words = w; marks = r })
 same-memory e f = cc
 
-pub put-nil : (vs l : List ℕ) → put [] vs l ≡ l
+put-nil : (vs l : List ℕ) → put [] vs l ≡ l
 unfolding put
 put-nil vs l = refl
 
-pub put-cons : (x v : ℕ) (cs vs l : List ℕ) → put (x ∷ cs) (v ∷ vs) l ≡ put cs vs (set l x v)
+put-cons : (x v : ℕ) (cs vs l : List ℕ) → put (x ∷ cs) (v ∷ vs) l ≡ put cs vs (set l x v)
 unfolding put
 put-cons x v cs vs l = refl
 
@@ -33,7 +31,7 @@ put-length [] vs l = refl
 put-length (x ∷ cs) [] l = refl
 put-length (x ∷ cs) (v ∷ vs) l = put-length cs vs (set l x v) ∙ length-set l x v
 
-pub put-step : (cs vs l : List ℕ) (p : ℕ) → p < length cs → p < length vs
+put-step : (cs vs l : List ℕ) (p : ℕ) → p < length cs → p < length vs
     → put (drop p cs) (drop p vs) l ≡ put (drop (p + 1) cs) (drop (p + 1) vs) (set l (getD cs p 0) (getD vs p 0))
 put-step cs vs l p h k = rw (add-one p, drop-cons cs p 0, drop-cons vs p 0, put-cons)
 

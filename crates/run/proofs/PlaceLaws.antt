@@ -1,13 +1,13 @@
 -- Places of the memory, and the cells that a call reads and writes.
---   half-bank          a half starts at bank 0, so a place has the bank of its cell
 --   halves-apart       places of two halves are different
 --   places-at          the cells of a tick, one by one
 --   reads-length, writes-length    a call reads 2^k cells or none, and writes 2^k or none
 --   reads-few          so it reads at most 2^k
---   place-bank         on a side of a sheet, a place has the bank of the word that goes there
 --   places-clash       the cells of a tick clash exactly when two of its words have one bank
---   places-below       they are places of the memory
---   reads-below, writes-below      so are the cells that a call reads, and those that it writes
+--   cell-into          a side's map goes into 2^n cells
+--   places-below       where a map does, the places of a tick are places of the memory
+--   reads-below, writes-below      so are those that a call reads, and those that it writes
+--   sides-apart        and no place that it writes is one that it reads
 --   are-places         a list of cells, each with the start of a half added, is the places of a tick
 --   are-writes, are-reads          a list that has the right length and, where that is 2^k, these places, is what a call writes, or what it reads
 use Prim.Native.Nat.{ℕ, _+_, _-_, _*_, _/_, _^_, _<_, _≤_}
@@ -33,7 +33,7 @@ use Rattle.run.specs.Call.{placeIn, placesOf, readsOf, writesOf}
 use Rattle.run.specs.Tool.{rightTick}
 use Rattle.run.specs.declared.State.{State}
 
-pub half-bank : {n k : ℕ} → k ≤ n → (h x : ℕ) → bankOf k (placeIn n h x) ≡ bankOf k x
+half-bank : {n k : ℕ} → k ≤ n → (h x : ℕ) → bankOf k (placeIn n h x) ≡ bankOf k x
 half-bank {n} {k} within h x =
     let parts : 2 ^ n ≡ 2 ^ tickBits n k * 2 ^ k = ap (λ (i : ℕ). 2 ^ i) (omega arith) ∙ pow-add 2 (tickBits n k) k in
     ap (λ (i : ℕ). bankOf k (i + x)) (ap (λ (i : ℕ). h * i) parts ∙ sym (mul-assoc h (2 ^ tickBits n k) (2 ^ k)))
@@ -68,7 +68,7 @@ module _ (n k : ℕ) (f : ℕ → ℕ) where
   writes-length st (w ∷ ws) = places-length (st .h) (st .a)
 
 module _ {n k : ℕ} {S : Side} (used : InRange n k S) (within : k ≤ n) where
-  pub place-bank : (h c p : ℕ) → p < 2 ^ k → bankOf k (placeIn n h (cellOf k S (wordAt k c p))) ≡ bankAt S c p
+  place-bank : (h c p : ℕ) → p < 2 ^ k → bankOf k (placeIn n h (cellOf k S (wordAt k c p))) ≡ bankAt S c p
   place-bank h c p l = half-bank within h (cellOf k S (wordAt k c p)) ∙ ap (bankOf k) (sym (cell-word k S c p l)) ∙ bank-of-cell used c p
 
   cell-bank : (h c p : ℕ) → p < 2 ^ k → bankOf k (getD (placesOf n k (cellOf k S) h c) p 0) ≡ bankAt S c p
@@ -84,22 +84,37 @@ module _ {n k : ℕ} {S : Side} (used : InRange n k S) (within : k ≤ n) where
             (p, omega arith, (q, omega arith, (b, cell-bank h c p (omega arith) ∙ e ∙ sym (cell-bank h c q r)))),
       )
 
-  pub places-below : (h c : ℕ) → h < 2 → AllBelow (2 ^ (n + 1)) (placesOf n k (cellOf k S) h c)
-  places-below h c half p l =
-      let i = wordAt k c p in
-      rw (places-at n k (cellOf k S) h c p (rw (places-length n k (cellOf k S) h c) at l))
-      (omega (arith, digits-lt half (cell-lt used within (tickOf k i) (portOf k i)), pow-add 2 n 1))
+  pub cell-into : (i : ℕ) → cellOf k S i < 2 ^ n
+  cell-into i = cell-lt used within (tickOf k i) (portOf k i)
 
-  pub reads-below : (st : State) → AllBelow (2 ^ (n + 1)) (readsOf n k (cellOf k S) st)
+module _ (n k : ℕ) (f : ℕ → ℕ) (into : (i : ℕ) → f i < 2 ^ n) where
+  pub places-below : (h c : ℕ) → h < 2 → AllBelow (2 ^ (n + 1)) (placesOf n k f h c)
+  places-below h c half p l =
+      rw (places-at n k f h c p (rw (places-length n k f h c) at l))
+      (omega (arith, digits-lt half (into (wordAt k c p)), pow-add 2 n 1))
+
+  pub reads-below : (st : State) → AllBelow (2 ^ (n + 1)) (readsOf n k f st)
   reads-below st = go (reading (ticks n k) st)
     where
-      go : (b : Bool) → AllBelow (2 ^ (n + 1)) (cond b (placesOf n k (cellOf k S) (1 - st .h) (st .r)) [])
+      go : (b : Bool) → AllBelow (2 ^ (n + 1)) (cond b (placesOf n k f (1 - st .h) (st .r)) [])
       go true = places-below (1 - st .h) (st .r) (omega arith)
       go false = λ p l. absurd (omega arith)
 
-  pub writes-below : (st : State) (ws : List ℕ) → st .h < 2 → AllBelow (2 ^ (n + 1)) (writesOf n k (cellOf k S) st ws)
+  pub writes-below : (st : State) (ws : List ℕ) → st .h < 2 → AllBelow (2 ^ (n + 1)) (writesOf n k f st ws)
   writes-below st [] half = λ p l. absurd (omega arith)
   writes-below st (w ∷ ws) half = places-below (st .h) (st .a) half
+
+module _ (n k : ℕ) (f g : ℕ → ℕ) (into : (i : ℕ) → f i < 2 ^ n) (from : (i : ℕ) → g i < 2 ^ n) where
+  pub sides-apart : (st : State) (ws : List ℕ) (p q : ℕ) → st .h < 2 → p < length (writesOf n k f st ws) → q < length (readsOf n k g st)
+      → getD (writesOf n k f st ws) p 0 ≢ getD (readsOf n k g st) q 0
+  sides-apart st [] p q half l = λ r. absurd (omega arith)
+  sides-apart st (w ∷ ws) p q half l = go (reading (ticks n k) st)
+    where
+      go : (b : Bool) → q < length (cond b (placesOf n k g (1 - st .h) (st .r)) []) → getD (placesOf n k f (st .h) (st .a)) p 0 ≢ getD (cond b (placesOf n k g (1 - st .h) (st .r)) []) q 0
+      go true r = λ same.
+          halves-apart n (into _) (from _) (omega arith)
+          (sym (places-at n k f (st .h) (st .a) p (rw (places-length n k f (st .h) (st .a)) at l)) ∙ same ∙ places-at n k g (1 - st .h) (st .r) q (rw (places-length n k g (1 - st .h) (st .r)) at r))
+      go false r = absurd (omega arith)
 
 pub are-places : (n k : ℕ) (S : Side) (h c : ℕ) {base : ℕ} {l : List ℕ} → base ≡ h * 2 ^ n → l ≡ inOrder (2 ^ k) (λ p. base + cellAt k S c p)
     → l ≡ placesOf n k (cellOf k S) h c

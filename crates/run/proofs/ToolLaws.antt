@@ -1,47 +1,54 @@
 -- What the run answers.
---   ticks-refused     how a refusal meets `Ticks`: it is the table's, and everything is as it came
---   ticks-done        how an answer meets it where the table gives none
+--   comes-refused     how a refusal is what comes of a call: its table gives it, and everything is as it came
+--   comes-done        how an answer is where the table gives none
+--   comes-past        where the reasons that come before 11 to 14 give none, the same comes of a call without them
+--   ticks-idle        where no tick is handed out, the out buffer is as it came
 --   ticks-unique      the run has one answer, and leaves one memory and one out buffer
 use Prim.Native.Nat.{ℕ}
 use mathlib.Core.Path.{_≡_, refl, sym, ap, _∙_}
-use mathlib.Core.Bool.{Bool}
-use mathlib.Core.List.{List}
-use mathlib.Core.Option.{none, some}
+use mathlib.Core.Bool.{Bool, false}
+use mathlib.Core.List.{List, [], _++_}
+use mathlib.Core.Option.{Option, none, some}
 use Rattle.kinds.specs.Edition.{Edition}
 use Rattle.kinds.specs.Frame.{ticks}
-use Rattle.kinds.specs.Lowest.{lowest}
+use Rattle.kinds.specs.Lowest.{Reason, lowest}
 use Rattle.kinds.specs.declared.Refusal.{Refusal}
-use Rattle.kinds.proofs.LowestLaws.{none-some}
+use Rattle.kinds.proofs.LowestLaws.{none-some, lowest-append, lowest-none}
 use Rattle.maps.specs.Cells.{M, N}
 use Rattle.run.specs.Memory.{Memory, wordsAt, served, onto}
+use Rattle.run.specs.Faults.{faults}
 use Rattle.run.specs.States.{reading, next}
-use Rattle.run.specs.Call.{readsOf, accessOf, Outcome}
-use Rattle.run.specs.Tool.{beforeFaults, sheetCall, refusalOf, stateAfter, handedOut, Ticks}
+use Rattle.run.specs.Call.{readsOf, writesOf, accessOf, Outcome, outcome, call}
+use Rattle.run.specs.Tool.{beforeFaults, refusalOf, stateAfter, handedOut, ComesOf, Ticks}
 use Rattle.run.specs.declared.State.{State}
 use Rattle.run.specs.declared.Ticked.{Ticked}
 use Rattle.run.specs.declared.Ticked.the-variants.{Done, Refused}
-use Rattle.run.proofs.TableLaws.{runTable}
-use Rattle.run.proofs.CallLaws.{call-refused, call-done}
+use Rattle.run.proofs.CallLaws.{call-given, call-refused, call-done, call-idle}
+
+comes-by : {o x : Outcome} {st : State} {out : List ℕ} {a : Ticked} {m' : Memory} {out' : List ℕ} → o ≡ x → ComesOf x st out a m' out' → ComesOf o st out a m' out'
+comes-by e c = rw e c
+
+module _ (t : List Reason) (n k : ℕ) (f g : ℕ → ℕ) (st : State) (ws : List ℕ) (m : Memory) (out : List ℕ) {m' : Memory} {out' : List ℕ} where
+  pub comes-refused : {x : Refusal} → lowest (t ++ faults k (writesOf n k f st ws) (readsOf n k g st) (m .marks)) ≡ some x → m' ≡ m → out' ≡ out
+      → ComesOf (call t n k f g st ws m) st out (Refused x) m' out'
+  comes-refused given memory buffer =
+      comes-by (call-refused t n k f g st ws m (call-given t n k f g st ws m ∙ given))
+      (record { refusal = refl; state = refl; handed = refl; memory = memory; buffer = buffer })
+
+  pub comes-done : {st' : State} {handed : Bool} → lowest (t ++ faults k (writesOf n k f st ws) (readsOf n k g st) (m .marks)) ≡ none
+      → st' ≡ next (ticks n k) st ws → handed ≡ reading (ticks n k) st → m' ≡ served (accessOf n k f g st ws) m
+      → out' ≡ onto (wordsAt (readsOf n k g st) (m .words)) out → ComesOf (call t n k f g st ws m) st out (Done st' handed) m' out'
+  comes-done given state handed memory buffer =
+      comes-by (call-done t n k f g st ws m (call-given t n k f g st ws m ∙ given))
+      (record { refusal = refl; state = state; handed = handed; memory = memory; buffer = buffer })
+
+  pub comes-past : {a : Ticked} → lowest t ≡ none → ComesOf (call [] n k f g st ws m) st out a m' out' → ComesOf (call t n k f g st ws m) st out a m' out'
+  comes-past given = comes-by (ap (λ (o : Option Refusal). outcome o n k f g st ws m) (lowest-append t _ (lowest-none t .0 given)))
 
 module _ (e : Edition) (n k : ℕ) (s : List ℕ) (st : State) (ws : List ℕ) (m : Memory) (out : List ℕ) where
-  comes-of : (o : Outcome) {a : Ticked} {m' : Memory} {out' : List ℕ} → sheetCall e n k s st ws m out ≡ o → refusalOf a ≡ o .refusal → stateAfter st a ≡ o .state
-      → handedOut a ≡ o .handed → m' ≡ o .memory → out' ≡ onto (o .leaving) out → Ticks e n k s st ws m out a m' out'
-  comes-of o call refusal state handed memory buffer = record {
-    refusal = refusal ∙ sym (ap (λ (x : Outcome). x .refusal) call);
-    state = state ∙ sym (ap (λ (x : Outcome). x .state) call);
-    handed = handed ∙ sym (ap (λ (x : Outcome). x .handed) call);
-    memory = memory ∙ sym (ap (λ (x : Outcome). x .memory) call);
-    buffer = buffer ∙ sym (ap (λ (x : Outcome). onto (x .leaving) out) call);
-  }
-
-  pub ticks-refused : {x : Refusal} {m' : Memory} {out' : List ℕ} → lowest (runTable e n k s st ws m out) ≡ some x → m' ≡ m → out' ≡ out
-      → Ticks e n k s st ws m out (Refused x) m' out'
-  ticks-refused given = comes-of _ (call-refused (beforeFaults e n k s st ws m out) n k (M e n k s) (N e n k s) st ws m given) refl refl refl
-
-  pub ticks-done : {st' : State} {handed : Bool} {m' : Memory} {out' : List ℕ} → lowest (runTable e n k s st ws m out) ≡ none
-      → st' ≡ next (ticks n k) st ws → handed ≡ reading (ticks n k) st → m' ≡ served (accessOf n k (M e n k s) (N e n k s) st ws) m
-      → out' ≡ onto (wordsAt (readsOf n k (N e n k s) st) (m .words)) out → Ticks e n k s st ws m out (Done st' handed) m' out'
-  ticks-done given = comes-of _ (call-done (beforeFaults e n k s st ws m out) n k (M e n k s) (N e n k s) st ws m given) refl
+  pub ticks-idle : (a : Ticked) (m' : Memory) (out' : List ℕ) → Ticks e n k s st ws m out a m' out' → handedOut a ≡ false → out' ≡ out
+  ticks-idle a m' out' c idle =
+      c .buffer ∙ ap (λ (l : List ℕ). onto l out) (call-idle (beforeFaults e n k s st ws m out) n k (M e n k s) (N e n k s) st ws m (sym (c .handed) ∙ idle))
 
   same-answer : (a b : Ticked) → refusalOf a ≡ refusalOf b → stateAfter st a ≡ stateAfter st b → handedOut a ≡ handedOut b → a ≡ b
   same-answer (Done p h) (Done q i) r s t = cc

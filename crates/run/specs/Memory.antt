@@ -1,4 +1,4 @@
--- What a call does to the memory. Which cells it writes and reads is not said here: nothing in this file knows of sheets.
+-- What a call does to the memory. A cell is named by its place in the memory. Which cells a call writes and reads is not said here: nothing in this file knows of sheets.
 --   Memory               the words, and a mark for each
 --   Filled l x           cell x is filled, where l is the marks: "a mark that isn't zero means filled" (01, 'One tick of the run')
 --   filled? l x          whether it is
@@ -9,7 +9,7 @@
 --   emptied cs m         the memory after the cells cs were emptied: "mark 0, the stored word left as it is"
 --   wordsAt cs l         the words in the cells cs, where l is the words of the memory
 --   Access               what a call does: which cells it writes, by port, with which words, and which cells it reads, by port
---   served A m           the memory after that
+--   served A m           the memory after the reads, and then the writes
 --   onto ws out          the out buffer after the words ws went there, from its first place on
 use Prim.Native.Nat.{ℕ, zero, suc}
 use mathlib.Core.List.{List, [], _∷_, _++_, map}

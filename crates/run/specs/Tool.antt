@@ -6,8 +6,8 @@
 --   refusalOf a                the refusal that the answer a gives; none where it says done
 --   stateAfter st a            the state after a call that was answered a: on a refusal it stays as it came
 --   handedOut a                whether a says that a tick was handed out
---   Ticks e n k s st ws m out a m' out'      the tool: the answer a, and the memory and the out buffer afterwards, are what comes of the call; where nothing is handed out
---                              the out buffer is as it came
+--   ComesOf o st out a m' out'               the answer a, and the memory m' and the out buffer out' afterwards, are what comes of a call; st and out are the state and the buffer before
+--   Ticks e n k s st ws m out a m' out'      the tool: they are what comes of the call with the sheet s
 use Prim.Native.Nat.{ℕ, zero, suc, _+_, _^_}
 use mathlib.Core.Path.{_≡_}
 use mathlib.Core.Bool.{Bool, false}
@@ -53,9 +53,12 @@ abbrev pub handedOut : Ticked → Bool
 handedOut (Done st handed) = handed
 handedOut (Refused x) = false
 
-pub record Ticks (e : Edition) (n k : ℕ) (s : List ℕ) (st : State) (ws : List ℕ) (m : Memory) (out : List ℕ) (a : Ticked) (m' : Memory) (out' : List ℕ) : Type 0 where
-  pub refusal : refusalOf a ≡ sheetCall e n k s st ws m out .refusal
-  pub state : stateAfter st a ≡ sheetCall e n k s st ws m out .state
-  pub handed : handedOut a ≡ sheetCall e n k s st ws m out .handed
-  pub memory : m' ≡ sheetCall e n k s st ws m out .memory
-  pub buffer : out' ≡ onto (sheetCall e n k s st ws m out .leaving) out
+pub record ComesOf (o : Outcome) (st : State) (out : List ℕ) (a : Ticked) (m' : Memory) (out' : List ℕ) : Type 0 where
+  pub refusal : refusalOf a ≡ o .refusal
+  pub state : stateAfter st a ≡ o .state
+  pub handed : handedOut a ≡ o .handed
+  pub memory : m' ≡ o .memory
+  pub buffer : out' ≡ onto (o .leaving) out
+
+abbrev pub Ticks : Edition → ℕ → ℕ → List ℕ → State → List ℕ → Memory → List ℕ → Ticked → Memory → List ℕ → Type 0
+Ticks e n k s st ws m out = ComesOf (sheetCall e n k s st ws m out) st out

@@ -8,11 +8,11 @@ ghost use Rattle.kinds.specs.Edition.{edition1};
 ghost use Rattle.kinds.specs.Lowest.{lowest};
 ghost use Rattle.kinds.specs.Reasons.{RightLengths};
 ghost use Rattle.kinds.specs.Refusal.{said};
-ghost use Rattle.run.specs.Memory.{Filled, put, marked, wordsAt, onto};
+ghost use Rattle.run.specs.Memory.{put, marked, wordsAt, onto};
 ghost use Rattle.run.specs.Faults.{Clash, faults};
-ghost use Rattle.run.specs.States.{Possible, reading, afterRead, next as nextState};
+ghost use Rattle.run.specs.States.{Possible, afterRead, next as nextState};
 ghost use Rattle.run.specs.Tool.{runLengths, Ticks};
-ghost use Rattle.run.specs.Inside.{mostPorts, mostBanks, firstPair, Reaches, Ready, Serves, SomeMarked, ListsPlaces};
+ghost use Rattle.run.specs.Inside.{mostPorts, mostBanks, firstPair, Reaches, SomeMarked, Ready, Serves, ListsPlaces, Callable, Calls};
 use kinds::Answer;
 use kinds::Bank;
 use kinds::Port;
@@ -36,7 +36,7 @@ pub enum Ticked {
 // Room for the ports of a tick.
 const PORTS: usize = 1 << kinds::MOST_K;
 
-// One call: the words that came, none of them on a blank tick, go in, and a tick of the frame before goes out. 1, 2, 5 and 10 to 14.
+// One call: the words that came, none of them on a blank tick, go in, and the next tick of the frame before, if one is left, goes out. 1, 2, 5 and 10 to 14.
 pub fn tick(
     n: u32,
     k: u32,
@@ -57,35 +57,23 @@ pub fn tick(
     if let Answer::Refused(refusal) = checked {
         return Ticked::Refused(refusal);
     }
-    let ticks = bits::two_to(n - k);
-    if !state.possible(ticks) {
+    if !state.possible(bits::two_to(n - k)) {
         return Ticked::Refused(Refusal::State);
     }
-    let half = bits::two_to(n);
-    let into = state.h * half;
-    let from = (1 - state.h) * half;
-    let written = came.len();
-    let read = state.leaving(ticks, out.len());
-    let mut writes = [0; PORTS];
-    let mut reads = [0; PORTS];
-    places(sides.write, Tick(state.a), into, &mut writes[0..written]);
-    places(sides.read, Tick(state.r), from, &mut reads[0..read]);
-    let served = serve(
+    call(
+        n,
         k,
-        &writes[0..written],
+        sides.write,
+        sides.read,
+        state,
         came,
-        &reads[0..read],
         out,
         words,
         marks,
-    );
-    if let Answer::Refused(refusal) = served {
-        return Ticked::Refused(refusal);
-    }
-    Ticked::Done(state.next(ticks, came), state.r < ticks)
+    )
 }
 
-// A frame of n beyond 63 has more places than any length.
+// No length is 2^(n + 1) for n beyond 63, and up to there n + 1 fits.
 fn lengths_fit(n: u32, k: u32, came: usize, out: usize, words: usize, marks: usize) -> bool
     ensures { λ r. ⌜ Says r (RightLengths (runLengths n k came out words marks)) ⌝ }
 {
@@ -123,27 +111,17 @@ impl State {
         self.h < 2
     }
 
-    // How many words leave in this call.
-    fn leaving(self, ticks: u32, ports: usize) -> usize
-        ensures { λ r. ⌜ r ≡ cond (reading ticks self) ports 0 ⌝ }
-    {
-        if self.r < ticks {
-            return ports;
-        }
-        0
-    }
-
     // The state after a call: the reader goes on, blank tick or not, and the tick that completes a frame turns the halves.
     fn next(self, ticks: u32, came: &[u32]) -> State
         requires { ⌜ Possible ticks self ⌝ }
         ensures { λ r. ⌜ r ≡ nextState ticks self (now (came .entry)) ⌝ }
     {
-        let read = self.after_read(ticks);
+        let after = self.after_read(ticks);
         if came.len() == 0 {
-            return read;
+            return after;
         }
-        let a = read.a + 1;
-        let other = 1 - read.h;
+        let a = after.a + 1;
+        let other = 1 - after.h;
         if a == ticks {
             return State {
                 a: 0,
@@ -153,8 +131,8 @@ impl State {
         }
         State {
             a,
-            h: read.h,
-            r: read.r,
+            h: after.h,
+            r: after.r,
         }
     }
 
@@ -173,8 +151,60 @@ impl State {
     }
 }
 
-// The cells of a tick, as places of the memory.
-fn places(side: OpenSide, tick: Tick, base: u32, places: &mut [u32])
+// A call that nothing but 11 to 14 can refuse, over the cells of any two sides.
+fn call(
+    n: u32,
+    k: u32,
+    write: OpenSide,
+    read: OpenSide,
+    state: State,
+    came: &[u32],
+    out: &mut [u32],
+    words: &mut [u32],
+    marks: &mut [u8],
+) -> Ticked
+    requires { ⌜ Callable n k write read state (now came) (now out) (now words) (now marks) ⌝ }
+    ensures { λ r. ⌜ Calls n k write read state (now (came .entry))
+        (record { words = now (words .entry); marks = now (marks .entry) }) (now (out .entry)) r
+        (record { words = now (words .exit); marks = now (marks .exit) }) (now (out .exit)) ⌝ }
+{
+    let ticks = bits::two_to(n - k);
+    let half = bits::two_to(n);
+    let into = state.h * half;
+    let from = (1 - state.h) * half;
+    let reading = state.r < ticks;
+    let arriving = came.len();
+    let leaving = words_leaving(reading, out.len());
+    let mut writes = [0; PORTS];
+    let mut reads = [0; PORTS];
+    places_of(write, Tick(state.a), into, &mut writes[0..arriving]);
+    places_of(read, Tick(state.r), from, &mut reads[0..leaving]);
+    let answer = serve(
+        k,
+        &writes[0..arriving],
+        came,
+        &reads[0..leaving],
+        out,
+        words,
+        marks,
+    );
+    if let Answer::Refused(refusal) = answer {
+        return Ticked::Refused(refusal);
+    }
+    Ticked::Done(state.next(ticks, came), reading)
+}
+
+fn words_leaving(reading: bool, ports: usize) -> usize
+    ensures { λ r. ⌜ r ≡ cond reading ports 0 ⌝ }
+{
+    if reading {
+        return ports;
+    }
+    0
+}
+
+// The cells of a tick, as places of the memory. Where no words come or leave there is no room for a tick's cells, `cells` refuses, and the list stays empty.
+fn places_of(side: OpenSide, tick: Tick, base: u32, places: &mut [u32])
     requires { ⌜ length (now places) ≤ mostPorts ⌝ }
     requires { ⌜ base ≤ 2 ^ 16 ⌝ }
     ensures { λ r. ⌜ ListsPlaces side (tick .0) base (now (places .entry)) (now (places .exit)) ⌝ }
@@ -222,15 +252,15 @@ fn first_fault(k: u32, writes: &[u32], reads: &[u32], marks: &[u8]) -> Answer
     requires { ⌜ Reaches (now reads) (now marks) ⌝ }
     ensures { λ r. ⌜ said r ≡ lowest (faults k (now (writes .entry)) (now (reads .entry)) (now (marks .entry))) ⌝ }
 {
-    let written = first_pair(k, writes);
-    if let Pair::Between(p, q) = written {
+    let write_pair = first_pair(k, writes);
+    if let Pair::Between(p, q) = write_pair {
         return Answer::Refused(Refusal::WriteClash(p, q));
     }
     if some_cell(writes, marks, true) {
         return Answer::Refused(Refusal::Overwrite);
     }
-    let read = first_pair(k, reads);
-    if let Pair::Between(p, q) = read {
+    let read_pair = first_pair(k, reads);
+    if let Pair::Between(p, q) = read_pair {
         return Answer::Refused(Refusal::ReadClash(p, q));
     }
     if some_cell(reads, marks, false) {
@@ -245,7 +275,7 @@ enum Pair {
     Between(Port, Port),
 }
 
-// One pass says whether there is a pair; only then is it searched for.
+// One pass says whether there is a pair; it is searched for only where there is one.
 fn first_pair(k: u32, cells: &[u32]) -> Pair
     requires { ⌜ 2 ^ k ≤ mostBanks ⌝ }
     requires { ⌜ length (now cells) ≤ mostPorts ⌝ }
@@ -304,7 +334,7 @@ fn find_pair(k: u32, cells: &[u32]) -> Pair
 // Whether some cell is filled, or whether some cell is empty.
 fn some_cell(cells: &[u32], marks: &[u8], filled: bool) -> bool
     requires { ⌜ Reaches (now cells) (now marks) ⌝ }
-    ensures { λ r. ⌜ Says r (SomeMarked filled (now (cells .entry)) (now (marks .entry))) ⌝ }
+    ensures { λ r. ⌜ Says r (SomeMarked filled (now (marks .entry)) (now (cells .entry))) ⌝ }
 {
     let mut p = 0;
     while p < cells.len() {

@@ -52,14 +52,14 @@ module _ (c : tie.Start) where
 first-pair-requires : tie.Need-first-pair-requires
 first-pair-requires c κs = search needs
 
-enum-known-written : tie.Need-enum-known-written
-enum-known-written c = search needs
+enum-known-write-pair : tie.Need-enum-known-write-pair
+enum-known-write-pair c = search needs
 
 returns : tie.Need-returns
 returns c =
     let called = c .before .before .before in
     let start = called .before .before .before .before in
-    sym (clash-given WriteClash (k start) (writes start) _ (sym (called .first-pair .ensures) ∙ c .before .written .given .1))
+    sym (clash-given WriteClash (k start) (writes start) _ (sym (called .first-pair .ensures) ∙ c .before .write-pair .given .1))
 
 enum-told : tie.Need-enum-told
 enum-told c = search needs
@@ -93,14 +93,14 @@ module _ (c : tie.Else1) where
 first-pair-requires-2 : tie.Need-first-pair-requires-2
 first-pair-requires-2 c κs = search needs
 
-enum-known-read : tie.Need-enum-known-read
-enum-known-read c = search needs
+enum-known-read-pair : tie.Need-enum-known-read-pair
+enum-known-read-pair c = search needs
 
 returns-3 : tie.Need-returns-3
 returns-3 c =
     let called = c .before .before .before in
     let start = start1 (called .before) in
-    sym (past-12 (called .before) ∙ clash-given ReadClash (k start) (reads start) _ (sym (called .first-pair2 .ensures) ∙ c .before .read .given .1))
+    sym (past-12 (called .before) ∙ clash-given ReadClash (k start) (reads start) _ (sym (called .first-pair2 .ensures) ∙ c .before .read-pair .given .1))
 
 enum-told-2 : tie.Need-enum-told-2
 enum-told-2 c = search needs
@@ -135,13 +135,13 @@ first-fault-spec =
     tie.close
     (tie.spec
     first-pair-requires
-    enum-known-written
+    enum-known-write-pair
     returns
     enum-told
     some-cell-requires
     returns-2
     first-pair-requires-2
-    enum-known-read
+    enum-known-read-pair
     returns-3
     enum-told-2
     some-cell-requires-2

@@ -15,19 +15,12 @@ use Rattle.run.specs.declared.State.{State}
 use Rattle.run.proofs.State.next.Statement.{statement}
 use Rattle.run.proofs.State.next.Tie as tie
 
-same-a : (b : Bool) (x y : State) → x .a ≡ y .a → cond b x y .a ≡ y .a
-same-a true x y e = e
-same-a false x y e = refl
+same : (f : State → ℕ) (b : Bool) (x y : State) → f x ≡ f y → f (cond b x y) ≡ f y
+same f true x y e = e
+same f false x y e = refl
 
-same-h : (b : Bool) (x y : State) → x .h ≡ y .h → cond b x y .h ≡ y .h
-same-h true x y e = e
-same-h false x y e = refl
-
-read-a : (T : ℕ) (st : State) → afterRead T st .a ≡ st .a
-read-a T st = same-a (ltb (st .r) T) _ st refl
-
-read-h : (T : ℕ) (st : State) → afterRead T st .h ≡ st .h
-read-h T st = same-h (ltb (st .r) T) _ st refl
+kept : (f : State → ℕ) (T : ℕ) (st : State) → f (record { a = st .a; h = st .h; r = st .r + 1 }) ≡ f st → f (afterRead T st) ≡ f st
+kept f T st e = same f (ltb (st .r) T) (record { a = st .a; h = st .h; r = st .r + 1 }) st e
 
 -- what is left after the read
 blank : (T : ℕ) (x : State) (ws : List ℕ) → x .a < T → length ws ≡ 0 → x ≡ turned T (afterWrite x ws)
@@ -56,10 +49,10 @@ module _ (c : tie.After-after-read) where
   x = c .after-read .result
 
   incoming : x .a < T
-  incoming = omega (arith, begin .pre .incoming, ap (λ (st : State). st .a) (c .after-read .ensures), read-a T (begin .args .self))
+  incoming = omega (arith, begin .pre .incoming, ap (λ (st : State). st .a) (c .after-read .ensures), kept (λ x. x .a) T (begin .args .self) refl)
 
   half : x .h < 2
-  half = omega (arith, begin .pre .half, ap (λ (st : State). st .h) (c .after-read .ensures), read-h T (begin .args .self))
+  half = omega (arith, begin .pre .half, ap (λ (st : State). st .h) (c .after-read .ensures), kept (λ x. x .h) T (begin .args .self) refl)
 
   then : turned T (afterWrite x ws) ≡ nextState T (begin .args .self) ws
   then = ap (λ (st : State). turned T (afterWrite st ws)) (c .after-read .ensures)

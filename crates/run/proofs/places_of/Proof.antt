@@ -1,4 +1,4 @@
--- `run::places` meets its contract. The invariant: the first p places are those of the first p cells that were listed.
+-- `run::places_of` meets its contract. The invariant: the first p places are those of the first p cells that were listed.
 use Prim.Native.Nat.{ℕ, _+_, _-_, _^_, _≤_, _<_}
 use mathlib.Core.Path.{_≡_, refl, ap, _∙_}
 use mathlib.Core.List.{List, _++_}
@@ -10,14 +10,14 @@ use lib.ListN.{length, getD, take, drop, set, replicate, length-append, length-s
 use lib.Seq.{getD-set-same, getD-set-other}
 use Rattle.kinds.specs.declared.Answer.{Answer}
 use Rattle.kinds.proofs.LowestLaws.{lowest-none}
-use Rattle.kinds.proofs.FrameLaws.{in-order-is}
+use Rattle.kinds.proofs.FrameLaws.{in-order-at, in-order-is}
 use Rattle.maps.specs.Cells.{cellAt}
 use Rattle.maps.specs.Opened.{ListsCells}
 use Rattle.maps.specs.declared.OpenSide.{OpenSide}
 use Rattle.run.specs.Inside.{mostPorts, ListsPlaces}
 use Rattle.run.proofs.PartLaws.{part-length, part-back}
-use Rattle.run.proofs.places.Statement.{statement}
-use Rattle.run.proofs.places.Tie as tie
+use Rattle.run.proofs.places_of.Statement.{statement}
+use Rattle.run.proofs.places_of.Tie as tie
 
 record Placing (base : ℕ) (places₀ listed places : List ℕ) (p : ℕ) : Type 0 where
   all : length listed ≡ length places₀
@@ -39,13 +39,13 @@ module _ {base : ℕ} {places₀ listed places : List ℕ} {p : ℕ} (i : Placin
             (getD-set-same places p new 0 (omega (arith, i .same)));
       }
 
-  done : {o : OpenSide} {c : ℕ} {lent cells : List ℕ} (r : Answer) → length lent ≡ length places₀ → ListsCells o c lent cells r → listed ≡ cells → length places₀ ≤ p
+  done : {o : OpenSide} {lent cells : List ℕ} (c : ℕ) (r : Answer) → length lent ≡ length places₀ → ListsCells o c lent cells r → listed ≡ cells → length places₀ ≤ p
       → ListsPlaces o c base places₀ places
-  done {c = c} r whole lists is end n k S shows e =
+  done c r whole lists is end n k S shows e =
       let answer = lists n k S shows in
       let tick = answer .done (answer .lowest-of ∙ lowest-none _ .1 (λ wrong. wrong (whole ∙ e, tt), tt)) in
       in-order-is (2 ^ k) (λ q. base + cellAt k S c q) places (i .same ∙ e)
-      (λ q h. i .each q (omega (arith, e)) ∙ rw (is, tick .each q h))
+      (λ q h. i .each q (omega (arith, e)) ∙ rw (is, tick, in-order-at (2 ^ k) (cellAt k S c) q h))
 
 abbrev Inv-loop : tie.InvT-loop
 Inv-loop base places₀ ports listed p₀ places p = Placing base places₀ listed places p
@@ -133,10 +133,10 @@ same-length c = c .before .loop .inv .same
 returns : tie.Need-returns Inv-loop μ-loop
 returns c =
     let back = c .before .before .before .before in
-    done (c .before .loop .inv) (back .before .cells2 .result) (lent back) (back .before .cells2 .ensures) (listed-is back) (c .loop-test .left)
+    done (c .before .loop .inv) (begin back .args .tick .0) (back .before .cells2 .result) (lent back) (back .before .cells2 .ensures) (listed-is back) (c .loop-test .left)
 
-pub places-spec : {M : Type 1} → statement M
-places-spec =
+pub places-of-spec : {M : Type 1} → statement M
+places-of-spec =
     tie.close
     (tie.spec
     Inv-loop

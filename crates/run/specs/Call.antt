@@ -7,8 +7,8 @@
 --   accessOf n k f g st ws      what the call does to the memory
 --   Outcome                     what comes of a call: the refusal, if one is given; the state; whether a tick was handed out, and its words, by port; the memory
 --   carriedOut n k f g st ws m  what comes of it where nothing is refused
---   refused x st m              what comes of it where x is: all as it came
---   outcome o n k f g st ws m   what comes of it where the refusal o is given, or none
+--   refused x st m              what comes of it where the refusal x is given: state and memory as they came, and nothing handed out
+--   outcome o n k f g st ws m   what comes of it where the refusal o is given, or none is
 --   call t n k f g st ws m      a call: the lowest of the reasons of t, which come first, and of 11 to 14 that applies, and what comes of it
 use Prim.Native.Nat.{ℕ, _+_, _-_, _*_, _^_}
 use mathlib.Core.Bool.{Bool, false, cond}

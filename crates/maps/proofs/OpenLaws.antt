@@ -1,5 +1,4 @@
 -- An opened side does what the side does that it shows: the zeros after what is used change nothing.
---   zeros-at          every place of a list of zeros shows 0
 --   padded-at         it shows the numbers of the list, and zeros after them
 --   padded-unique     a list of openWidth places that shows the numbers of another is that one, padded
 --   padded-used       padding a list or its beginning is the same where the rest is zero
@@ -43,7 +42,7 @@ use Rattle.maps.specs.declared.OpenSide.{OpenSide}
 use Rattle.maps.specs.declared.Opened.{Opened}
 use Rattle.maps.proofs.CellLaws.{after-append, cell-lt}
 
-pub zeros-at : (m j : ℕ) → _≡_ {A = ℕ} (getD (replicate m 0) j 0) 0
+zeros-at : (m j : ℕ) → _≡_ {A = ℕ} (getD (replicate m 0) j 0) 0
 zeros-at zero j = refl
 zeros-at (suc m) zero = refl
 zeros-at (suc m) (suc j) = zeros-at m j

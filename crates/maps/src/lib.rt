@@ -1,7 +1,7 @@
 // The two maps of a sheet: which cell each word has, on the write side and on the read side.
 ghost use mathlib.Core.Path.{_≡_};
 ghost use Prim.Native.Nat.{_+_, _*_, _%_, _^_, _≤_};
-ghost use lib.ListN.{length};
+ghost use lib.ListN.{length, getD};
 ghost use Rattle.kinds.specs.Edition.{edition1, sidePlaces};
 ghost use Rattle.kinds.specs.Frame.{wordAt};
 ghost use Rattle.sheet.specs.Sheet.{stagesIn};
@@ -75,18 +75,28 @@ fn open_side(k: u32, side: &[u16]) -> OpenSide
     }
 }
 
-// The numbers of a part, and zeros after them.
+// The numbers of a part, and zeros after them. Each place is written once, zeros too, so that the array can be copied at once in wide pieces.
 fn padded(part: &[u16]) -> [u16; WIDTH]
     requires { ⌜ length (now part) ≤ openWidth ⌝ }
     ensures { λ r. ⌜ r ≡ paddedOf (now (part .entry)) ⌝ }
 {
     let mut numbers = [0; WIDTH];
     let mut j = 0;
-    while j < part.len() {
-        numbers[j] = part[j];
+    while j < WIDTH {
+        numbers[j] = number_at(part, j);
         j += 1;
     }
     numbers
+}
+
+// The number at a place of a part, and 0 beyond the last.
+fn number_at(part: &[u16], j: usize) -> u16
+    ensures { λ r. ⌜ r ≡ getD (now (part .entry)) j 0 ⌝ }
+{
+    if j < part.len() {
+        return part[j];
+    }
+    0
 }
 
 impl OpenSide {

@@ -2,6 +2,7 @@
 --   both d e        whether two statements hold, where d decides the one and e the other
 --   through w d     whether a statement holds that holds exactly when the one that d decides does
 --   opposite d      whether the one that d decides fails
+--   implied d e     whether the one that e decides holds, if the one that d decides does
 use mathlib.Core.Logic.{_↔_}
 
 abbrev pub both : {A B : Type 0} → Dec A → Dec B → Dec (A × B)
@@ -16,3 +17,8 @@ through w (no n) = no (λ b. n (w .1 b))
 abbrev pub opposite : {A : Type 0} → Dec A → Dec (¬ A)
 opposite (yes a) = no (λ n. n a)
 opposite (no n) = yes n
+
+abbrev pub implied : {A B : Type 0} → Dec A → Dec B → Dec (A → B)
+implied d (yes b) = yes (λ a. b)
+implied (yes a) (no n) = no (λ i. n (i a))
+implied (no m) (no n) = yes (λ a. absurd (m a))

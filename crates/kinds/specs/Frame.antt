@@ -31,6 +31,6 @@ addressOf k x = x / 2 ^ k
 abbrev pub bankOf : ℕ → ℕ → ℕ
 bankOf k x = x % 2 ^ k
 
-unfoldable pub inOrder : ℕ → (ℕ → ℕ) → List ℕ
+unfoldable pub inOrder : {A : Type 0} → ℕ → (ℕ → A) → List A
 inOrder zero f = []
 inOrder (suc m) f = f 0 ∷ inOrder m (λ i. f (suc i))

@@ -44,7 +44,7 @@ halves-apart n {g} {h} l r differ same = differ (sym (high g n l) ∙ ap (λ (i 
 
 module _ (n k : ℕ) (f : ℕ → ℕ) where
   pub places-at : (h c p : ℕ) → p < 2 ^ k → getD (placesOf n k f h c) p 0 ≡ placeIn n h (f (wordAt k c p))
-  places-at h c = in-order-at (2 ^ k) (λ p. placeIn n h (f (wordAt k c p)))
+  places-at h c = in-order-at (2 ^ k) (λ p. placeIn n h (f (wordAt k c p))) 0
 
   places-length : (h c : ℕ) → length (placesOf n k f h c) ≡ 2 ^ k
   places-length h c = in-order-length (2 ^ k) (λ p. placeIn n h (f (wordAt k c p)))
@@ -119,9 +119,9 @@ module _ (n k : ℕ) (f g : ℕ → ℕ) (into : (i : ℕ) → f i < 2 ^ n) (fro
 pub are-places : (n k : ℕ) (S : Side) (h c : ℕ) {base : ℕ} {l : List ℕ} → base ≡ h * 2 ^ n → l ≡ inOrder (2 ^ k) (λ p. base + cellAt k S c p)
     → l ≡ placesOf n k (cellOf k S) h c
 are-places n k S h c {base} {l} b e =
-    in-order-is (2 ^ k) (λ p. placeIn n h (cellOf k S (wordAt k c p))) l
+    in-order-is (2 ^ k) (λ p. placeIn n h (cellOf k S (wordAt k c p))) 0 l
     (ap length e ∙ in-order-length (2 ^ k) _)
-    (λ p i. ap (λ (x : List ℕ). getD x p 0) e ∙ in-order-at (2 ^ k) _ p i ∙ ap₂ _+_ b (cell-word k S c p i))
+    (λ p i. ap (λ (x : List ℕ). getD x p 0) e ∙ in-order-at (2 ^ k) _ 0 p i ∙ ap₂ _+_ b (cell-word k S c p i))
 
 nothing : (l : List ℕ) → length l ≡ 0 → l ≡ []
 nothing [] e = refl

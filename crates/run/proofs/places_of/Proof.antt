@@ -44,8 +44,8 @@ module _ {base : ℕ} {places₀ listed places : List ℕ} {p : ℕ} (i : Placin
   done c r whole lists is end n k S shows e =
       let answer = lists n k S shows in
       let tick = answer .done (answer .lowest-of ∙ lowest-none _ .1 (λ wrong. wrong (whole ∙ e, tt), tt)) in
-      in-order-is (2 ^ k) (λ q. base + cellAt k S c q) places (i .same ∙ e)
-      (λ q h. i .each q (omega (arith, e)) ∙ rw (is, tick, in-order-at (2 ^ k) (cellAt k S c) q h))
+      in-order-is (2 ^ k) (λ q. base + cellAt k S c q) 0 places (i .same ∙ e)
+      (λ q h. i .each q (omega (arith, e)) ∙ rw (is, tick, in-order-at (2 ^ k) (cellAt k S c) 0 q h))
 
 abbrev Inv-loop : tie.InvT-loop
 Inv-loop base places₀ ports listed p₀ places p = Placing base places₀ listed places p

@@ -90,7 +90,7 @@ right {o} {came} {out} {first} c i end cell n k S h =
     let all : length came ≡ 2 ^ k = sym kept ∙ i .whole ∙ ap (λ (x : ℕ). 2 ^ x) (shown-k h) in
     let there : getD (set came 0 first) 0 0 ≡ first = getD-set-same came 0 first 0 (omega (arith, all, pow-pos k)) in
     does refl (sym (lowest-none (wrongLength ((length came, 2 ^ k) ∷ []) ∷ []) .1 (λ wrong. wrong (all, tt), tt)))
-    (in-order-is (2 ^ k) (cellAt k S c) out (i .same ∙ kept ∙ all) (λ p l. i .each c (rw there cell) p (omega (arith, all, kept, i .same)) n k S h))
+    (in-order-is (2 ^ k) (cellAt k S c) 0 out (i .same ∙ kept ∙ all) (λ p l. i .each c (rw there cell) p (omega (arith, all, kept, i .same)) n k S h))
 
 abbrev Inv-loop : tie.InvT-loop
 Inv-loop out₀ self filled₀ j₀ out filled j = Listing self out₀ out filled j

@@ -1,0 +1,79 @@
+-- The meanings on sheets of 01: 6 to 9 of passed and spoilt sheets; what a series of calls hands out; and a spoilt sheet that a series shows to be wrong.
+use Prim.Native.Nat.{ℕ}
+use mathlib.Core.Path.{_≡_, refl}
+use mathlib.Core.List.{List, [], _∷_, _++_, map, flatten}
+use native.Mathlib.Decide.{ℕ-discrete, decLe, decLt}
+use lib.Count.{ones}
+use lib.ListN.{length, set, replicate}
+use Rattle.kinds.specs.Edition.{edition1}
+use Rattle.kinds.specs.Frame.{inOrder}
+use Rattle.kinds.specs.Refusal.{given}
+use Rattle.kinds.specs.Lowest.{lowest}
+use Rattle.kinds.specs.Search.{someBelow, eachBelow}
+use Rattle.bits.specs.Image.{image}
+use Rattle.bits.specs.Parity.{parity, dot}
+use Rattle.span.specs.Maps.{bijection?}
+use Rattle.order.specs.Order.{place}
+use Rattle.sheet.specs.Sheet.{stagesIn}
+use Rattle.sheet.proofs.Cases.{reversal}
+use Rattle.maps.specs.Cells.{afterStages, M, N}
+use Rattle.run.specs.Memory.{put}
+use Rattle.promise.specs.Series.{Stand, standing, outcomeOf, wordsBefore, wordIn}
+use Rattle.promise.specs.Passes.{passTable}
+
+-- what a sheet's maps and a call compute with
+computed : Unit {0}
+unfolding lowest ℕ-discrete stagesIn eachBelow decLe decLt someBelow image afterStages dot parity ones inOrder put bijection? standing flatten
+computed = tt
+
+abbrev zeros : ℕ → List ℕ
+zeros n = replicate n 0
+
+-- the sheets planned for Gray code and for the identity at n 2, k 1
+abbrev gray : List ℕ
+gray = (0 ∷ 1 ∷ zeros 8) ++ (1 ∷ zeros 4) ++ (1 ∷ 1 ∷ 1 ∷ zeros 14) ++ (0 ∷ 1 ∷ zeros 8) ++ (1 ∷ zeros 21)
+
+abbrev identity : List ℕ
+identity = (0 ∷ 1 ∷ zeros 8) ++ (1 ∷ zeros 21) ++ (0 ∷ 1 ∷ zeros 8) ++ (1 ∷ zeros 21)
+
+abbrev verdict : ℕ × ℕ × List ℕ × List ℕ → ℕ
+verdict (n, k, C, s) = given (lowest (passTable edition1 n k C s))
+
+verdicts : map verdict (
+    (3, 1, 4 ∷ 2 ∷ 1 ∷ [], reversal) ∷ (2, 1, 1 ∷ 3 ∷ [], gray) ∷ (2, 1, 1 ∷ 2 ∷ [], identity) ∷ (2, 1, 1 ∷ 3 ∷ [], identity)
+    ∷ (3, 1, 4 ∷ 2 ∷ 1 ∷ [], set reversal 17 1) ∷ (3, 1, 4 ∷ 2 ∷ 1 ∷ [], set reversal 10 0) ∷ (3, 1, 4 ∷ 2 ∷ 1 ∷ [], set reversal 42 0) ∷ []
+    ) ≡ 0 ∷ 0 ∷ 0 ∷ 9 ∷ 8 ∷ 6 ∷ 7 ∷ []
+unfolding computed
+verdicts = refl
+
+abbrev fresh : ℕ → ℕ → Stand
+fresh places idle = record { state = record { a = 0; h = 0; r = idle }; memory = record { words = zeros places; marks = zeros places } }
+
+-- the number that each call of a series is answered with, and the words that it hands out
+abbrev told : ℕ → ℕ → List ℕ → Stand → List (List ℕ) → List (ℕ × List ℕ)
+told n k s x S = inOrder (length S) (λ j. let o = outcomeOf n k (λ F. M edition1 n k s) (λ F. N edition1 n k s) x S j in (given (o .refusal), o .leaving))
+
+abbrev gray-told : List (List ℕ) → List (ℕ × List ℕ)
+gray-told = told 2 1 gray (fresh 8 2)
+
+-- Gray code: the frame 0 1 2 3 leaves as 0 1 3 2. A frame leaves from the call after the one that completes it, blank or not, while the next comes in.
+leaving : gray-told ((0 ∷ 1 ∷ []) ∷ [] ∷ (2 ∷ 3 ∷ []) ∷ [] ∷ (4 ∷ 5 ∷ []) ∷ (6 ∷ 7 ∷ []) ∷ (8 ∷ 9 ∷ []) ∷ [] ∷ []) ≡ (
+    (0, []) ∷ (0, []) ∷ (0, []) ∷ (0, 0 ∷ 1 ∷ []) ∷ (0, 3 ∷ 2 ∷ []) ∷ (0, []) ∷ (0, 4 ∷ 5 ∷ []) ∷ (0, 7 ∷ 6 ∷ []) ∷ [])
+unfolding computed
+leaving = refl
+
+abbrev one-frame : List (List ℕ)
+one-frame = (0 ∷ 1 ∷ []) ∷ (2 ∷ 3 ∷ []) ∷ (4 ∷ 5 ∷ []) ∷ (6 ∷ 7 ∷ []) ∷ replicate 4 []
+
+abbrev quiet : List (ℕ × List ℕ)
+quiet = replicate 4 (0, [])
+
+-- The bit reversal sheet, and spoilt: with write control 1 for 2 tick 2 finds its cells filled; with write wiring 0 two words of the first call want one bank; with read wiring 0 the first call that reads finds two that do.
+faults : map (λ s. told 3 1 s (fresh 16 4) one-frame) (reversal ∷ set reversal 17 1 ∷ set reversal 10 0 ∷ set reversal 42 0 ∷ []) ≡ (
+    (quiet ++ ((0, 0 ∷ 4 ∷ []) ∷ (0, 2 ∷ 6 ∷ []) ∷ (0, 1 ∷ 5 ∷ []) ∷ (0, 3 ∷ 7 ∷ []) ∷ []))
+    ∷ ((0, []) ∷ (0, []) ∷ (12, []) ∷ (12, []) ∷ quiet)
+    ∷ (replicate 4 (11, []) ++ quiet)
+    ∷ (quiet ++ replicate 4 (13, []))
+    ∷ [])
+unfolding computed
+faults = refl

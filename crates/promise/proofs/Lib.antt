@@ -1,0 +1,2 @@
+-- Laws over every series.
+pub mod Cases

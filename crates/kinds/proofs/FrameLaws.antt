@@ -1,14 +1,29 @@
--- Values in order.
+-- The ticks of a frame, and values in order.
+--   frame-whole         2^t ticks of 2^k words are a frame
+--   tick-lt             a word of a frame comes on one of its 2^t ticks
+--   word-lt             a tick and a port of a frame make a word of it
 --   in-order-length     there are m of them
 --   in-order-at         the value at a place below m is that of the place
 --   in-order-is         a list of m numbers that has these values is this one
-use Prim.Native.Nat.{ℕ, zero, suc, _<_}
+use Prim.Native.Nat.{ℕ, zero, suc, _*_, _^_, _<_, _≤_}
 use mathlib.Core.Path.{_≡_, refl, sym, ap, _∙_}
 use mathlib.Core.List.{List}
+use native.Mathlib.Nat.{div-lt-iff-lt-mul}
 use native.Mathlib.Omega.{arith}
+use lib.Arith.{digits-lt}
 use lib.ListN.{length, getD}
+use lib.Pow.{pow-pos, pow-add}
 use lib.Seq.{ext-getD}
-use Rattle.kinds.specs.Frame.{inOrder}
+use Rattle.kinds.specs.Frame.{tickBits, ticks, tickOf, wordAt, inOrder}
+
+pub frame-whole : {n k : ℕ} → k ≤ n → ticks n k * 2 ^ k ≡ 2 ^ n
+frame-whole {n} {k} within = sym (pow-add 2 (tickBits n k) k) ∙ ap (λ (i : ℕ). 2 ^ i) (omega arith)
+
+pub tick-lt : {n k i : ℕ} → k ≤ n → i < 2 ^ n → tickOf k i < ticks n k
+tick-lt {k = k} within h = div-lt-iff-lt-mul (pow-pos k) .1 (rw (frame-whole within) h)
+
+pub word-lt : {n k c p : ℕ} → k ≤ n → c < ticks n k → p < 2 ^ k → wordAt k c p < 2 ^ n
+word-lt within tick port = rw (← frame-whole within) (digits-lt tick port)
 
 module _ {A : Type 0} where
   pub in-order-length : (m : ℕ) (f : ℕ → A) → length (inOrder m f) ≡ m

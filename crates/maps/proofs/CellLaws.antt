@@ -10,6 +10,7 @@
 --   maps-linear         so M and N are, of a sheet that keeps the layout
 --   cell-columns        being linear, a side's map is the image under its columns
 --   cell-bijection      it is a bijection of the words and the cells exactly when its columns are independent
+--   word-bank           the bank of the cell that the map gives a word
 --   wiring-part         its port-to-bank part is the wiring
 --   stages-part         its tick-to-bank part is the stages'
 --   stages-made         stages that make up each column of a linear map of tick bits make up the map
@@ -28,6 +29,7 @@ use lib.ListN.{length, getD, List·getD-eq-default}
 use lib.Pow.{pow-pos, pow-lt, pow-mono, pow-add, lt-of-le-ones, split, high, low}
 use Rattle.kinds.specs.Edition.{Edition}
 use Rattle.kinds.specs.Frame.{tickBits, tickOf, portOf, wordAt, addressOf, bankOf}
+use Rattle.kinds.proofs.FrameLaws.{frame-whole}
 use Rattle.bits.specs.Image.{chosen, image, AllBelow, Linear}
 use Rattle.bits.specs.Parity.{dot}
 use Rattle.bits.proofs.XorLaws.{xor-above, xor-assoc, xor-swap, xor-cancel}
@@ -165,16 +167,17 @@ module _ {n k : ℕ} {S : Side} (used : InRange n k S) where
   pub address-of-cell : (c p : ℕ) → addressOf k (cellAt k S c p) ≡ addressAt k S c p
   address-of-cell c p = high (addressAt k S c p) k (bank-lt c p)
 
+  pub word-bank : (c p : ℕ) → p < 2 ^ k → bankOf k (cellOf k S (wordAt k c p)) ≡ bankAt S c p
+  word-bank c p h = ap (bankOf k) (sym (cell-word k S c p h)) ∙ bank-of-cell c p
+
   pub wiring-part : (p : ℕ) → p < 2 ^ k → portToBank k (cellOf k S) p ≡ image (S .wiring) p
-  wiring-part p h = ap (bankOf k) (sym (cell-word k S 0 p h)) ∙ bank-of-cell 0 p ∙ port-bank S p
+  wiring-part p h = word-bank 0 p h ∙ port-bank S p
 
   pub stages-part : (c : ℕ) → tickToBank k (cellOf k S) c ≡ selected (S .stages) c
-  stages-part c = ap (bankOf k) (sym (cell-word k S c 0 (pow-pos k))) ∙ bank-of-cell c 0 ∙ tick-bank S c
+  stages-part c = word-bank c 0 (pow-pos k) ∙ tick-bank S c
 
   pub cell-lt : k ≤ n → (c p : ℕ) → cellAt k S c p < 2 ^ n
-  cell-lt within c p =
-      let all : tickBits n k + k ≡ n = omega arith in
-      omega (arith, digits-lt (address-lt c p) (bank-lt c p), pow-add 2 (tickBits n k) k, ap (λ (x : ℕ). 2 ^ x) all)
+  cell-lt within c p = omega (arith, digits-lt (address-lt c p) (bank-lt c p), frame-whole within)
 
   pub cell-linear : Linear (cellOf k S)
   cell-linear x y =

@@ -1,2 +1,14 @@
 -- Laws over every series.
+pub mod SeriesLaws
+pub mod StateLaws
+pub mod RefusalLaws
+pub mod HalfLaws
+pub mod FamilyLaws
+pub mod OneFrame
+pub mod OneRun
+pub mod PassLaws
+pub mod RightLaws
+pub mod BoundLaws
+pub mod ExactLaws
+pub mod ConserveLaws
 pub mod Cases

@@ -1,27 +1,34 @@
--- The run over a series of calls, and when it is right (01, 'One tick of the run').
+-- The run over a series of calls, and when it is right (01, 'One tick of the run'). Calls and frames are counted from 0.
 -- What a series brings, told from the series alone:
---   IsCall k ws              what a call brings: "2^k words or none (a blank tick)". Words have 32 bits
+--   Words32 l                the numbers of l are words of 32 bits
+--   IsCall k ws              what a call brings: "2^k words or none (a blank tick)"
 --   Series k S               every call of S is one
 --   callAt S j               call j of S
 --   wordsBefore S j          how many words S brings before call j
 --   wordIn n S F i           word i of frame F: a frame is the next 2^n words that come. "Blank ticks inside a frame only pause it"
+--   frame n S F              frame F
+--   tickIn k l c             tick c of the frame l: its 2^k words, by port
 --   CompletedIn n S F T      call T brings the last word of frame F
--- Where a word is due, under an order that sends word i to place P i, if its frame is completed in call T:
+--   SamePattern S R          S and R have blank ticks at the same calls, and equally many words at the others
+-- Where a word is due, if its frame is completed in call T, under an order that sends word i to place P i:
 --   dueCall k P T i          "a frame completed in call T leaves in calls T+1 to T+2^t, blank or not": in the one of its place's tick
 --   duePort k P i            at its place's port
--- The run, where f F i is the cell to which word i of frame F is written, and g F j the cell that is read for its place j. A sheet has M and N for every frame:
+-- The run, where f F i is the cell to which word i of frame F is written, and g F j the cell that is read for its place j:
 --   Stand                    where a run stands between two calls: the state, and the memory
---   Fresh n k x              "marks zero, nothing coming in, half 0, reader idle"; 2^(n+1) words and as many marks, and the words may be any
---   incoming n S j           the frame that comes in when call j is made; the one before it is being read
---   called n k f g S j x     what comes of call j, made where the run stands at x
---   standing n k f g x S j   where the run stands before call j, if it stood at x before call 0
+--   Fresh n k x              "marks zero, nothing coming in, half 0, reader idle". 2^(n+1) words are lent and as many marks; the words may be any
+--   incoming n S j           the frame that comes in at call j; what is read then, if anything is left, is of the frame before it
+--   called n k f g S j x     what comes of call j, made from x
+--   standing n k f g x S j   where a run that starts at x stands before call j
 --   outcomeOf n k f g x S j  what comes of call j then
---   takenIn n k f g x S j, handedOut n k f g x S j      words taken in, and words handed out, over the successful calls before call j
+--   wordsTaken n k f g x S j, wordsHanded n k f g x S j      "words taken in" and "words handed out, over the successful calls" before call j
+--   takenBy o ws             how many of the words ws a call takes in, where o is the refusal that it gives, if it gives one: then none
+--   standingOn e n k s x S j, outcomeOn e n k s x S j        the run of a sheet, which has M and N for every frame
 -- When it is right:
---   IsFault o                a call is answered 11, 12, 13 or 14
---   Leaves o p w             a tick is handed out, with the word w at port p
---   RightOver n k P f g x S  over the series S no call is a fault, and each word of a completed frame leaves when and where it is due, if the series reaches that call. P F is the order of frame F
---   Right e n k C s          the sheet s is right for the order C: over every series, and every content of the words
+--   IsFault o                the refusal o, if there is one, is 11, 12, 13 or 14
+--   Leaves o p w             in the call of which o comes a tick is handed out, with the word w at port p
+--   RightOver n k P o S      where o j is what comes of call j of the series S: no call is a fault, and each word of a completed frame leaves when and where it is due, if the series reaches that
+--                            call. P F is the order of frame F
+--   Right e n k C s          the sheet s is right for the order C: from fresh, over every series, and every content of the words that come and of the memory
 use Prim.Native.Nat.{ℕ, zero, suc, _+_, _-_, _*_, _/_, _^_, _<_, _≤_}
 use mathlib.Core.Path.{_≡_}
 use mathlib.Core.Bool.{true}
@@ -29,7 +36,7 @@ use mathlib.Core.List.{List, [], flatten}
 use mathlib.Core.Option.{Option, none, some}
 use lib.ListN.{length, getD, take}
 use Rattle.kinds.specs.Edition.{Edition}
-use Rattle.kinds.specs.Frame.{ticks, tickOf, portOf}
+use Rattle.kinds.specs.Frame.{ticks, tickOf, portOf, wordAt, inOrder}
 use Rattle.kinds.specs.Refusal.{given}
 use Rattle.kinds.specs.declared.Refusal.{Refusal}
 use Rattle.bits.specs.Image.{AllBelow}
@@ -60,10 +67,20 @@ wordsBefore S j = length (flatten (take j S))
 abbrev pub wordIn : ℕ → List (List ℕ) → ℕ → ℕ → ℕ
 wordIn n S F i = getD (flatten S) (F * 2 ^ n + i) 0
 
+abbrev pub frame : ℕ → List (List ℕ) → ℕ → List ℕ
+frame n S F = inOrder (2 ^ n) (wordIn n S F)
+
+abbrev pub tickIn : ℕ → List ℕ → ℕ → List ℕ
+tickIn k l c = inOrder (2 ^ k) (λ p. getD l (wordAt k c p) 0)
+
 pub record CompletedIn (n : ℕ) (S : List (List ℕ)) (F T : ℕ) : Type 0 where
   pub reached : T < length S
   pub not-before : wordsBefore S T < (F + 1) * 2 ^ n
   pub by-then : (F + 1) * 2 ^ n ≤ wordsBefore S (suc T)
+
+pub record SamePattern (S R : List (List ℕ)) : Type 0 where
+  pub calls : length S ≡ length R
+  pub counts : (j : ℕ) → j < length S → length (callAt S j) ≡ length (callAt R j)
 
 abbrev pub dueCall : ℕ → (ℕ → ℕ) → ℕ → ℕ → ℕ
 dueCall k P T i = T + 1 + tickOf k (P i)
@@ -87,6 +104,10 @@ pub record Fresh (n k : ℕ) (x : Stand) : Type 0 where
 abbrev pub incoming : ℕ → List (List ℕ) → ℕ → ℕ
 incoming n S j = wordsBefore S j / 2 ^ n
 
+abbrev pub takenBy : Option Refusal → List ℕ → ℕ
+takenBy none ws = length ws
+takenBy (some r) ws = 0
+
 module _ (n k : ℕ) (f g : ℕ → ℕ → ℕ) where
   abbrev pub called : List (List ℕ) → ℕ → Stand → Outcome
   called S j x = call [] n k (f (incoming n S j)) (g (incoming n S j - 1)) (x .state) (callAt S j) (x .memory)
@@ -98,17 +119,20 @@ module _ (n k : ℕ) (f g : ℕ → ℕ → ℕ) where
   abbrev pub outcomeOf : Stand → List (List ℕ) → ℕ → Outcome
   outcomeOf x S j = called S j (standing x S j)
 
-  abbrev pub takenBy : Option Refusal → List ℕ → ℕ
-  takenBy none ws = length ws
-  takenBy (some r) ws = 0
+  unfoldable pub wordsTaken : Stand → List (List ℕ) → ℕ → ℕ
+  wordsTaken x S zero = 0
+  wordsTaken x S (suc j) = wordsTaken x S j + takenBy (outcomeOf x S j .refusal) (callAt S j)
 
-  unfoldable pub takenIn : Stand → List (List ℕ) → ℕ → ℕ
-  takenIn x S zero = 0
-  takenIn x S (suc j) = takenIn x S j + takenBy (outcomeOf x S j .refusal) (callAt S j)
+  unfoldable pub wordsHanded : Stand → List (List ℕ) → ℕ → ℕ
+  wordsHanded x S zero = 0
+  wordsHanded x S (suc j) = wordsHanded x S j + length (outcomeOf x S j .leaving)
 
-  unfoldable pub handedOut : Stand → List (List ℕ) → ℕ → ℕ
-  handedOut x S zero = 0
-  handedOut x S (suc j) = handedOut x S j + length (outcomeOf x S j .leaving)
+module _ (e : Edition) (n k : ℕ) (s : List ℕ) where
+  abbrev pub standingOn : Stand → List (List ℕ) → ℕ → Stand
+  standingOn = standing n k (λ F. M e n k s) (λ F. N e n k s)
+
+  abbrev pub outcomeOn : Stand → List (List ℕ) → ℕ → Outcome
+  outcomeOn = outcomeOf n k (λ F. M e n k s) (λ F. N e n k s)
 
 abbrev pub IsFault : Option Refusal → Type 0
 IsFault o = (11 ≤ given o) × (given o ≤ 14)
@@ -117,10 +141,10 @@ pub record Leaves (o : Outcome) (p w : ℕ) : Type 0 where
   pub handed : o .handed ≡ true
   pub word : getD (o .leaving) p 0 ≡ w
 
-pub record RightOver (n k : ℕ) (P f g : ℕ → ℕ → ℕ) (x : Stand) (S : List (List ℕ)) : Type 0 where
-  pub no-fault : (j : ℕ) → j < length S → ¬ IsFault (outcomeOf n k f g x S j .refusal)
+pub record RightOver (n k : ℕ) (P : ℕ → ℕ → ℕ) (o : ℕ → Outcome) (S : List (List ℕ)) : Type 0 where
+  pub no-fault : (j : ℕ) → j < length S → ¬ IsFault (o j .refusal)
   pub leaves : (F T i : ℕ) → CompletedIn n S F T → i < 2 ^ n → dueCall k (P F) T i < length S
-      → Leaves (outcomeOf n k f g x S (dueCall k (P F) T i)) (duePort k (P F) i) (wordIn n S F i)
+      → Leaves (o (dueCall k (P F) T i)) (duePort k (P F) i) (wordIn n S F i)
 
-abbrev pub Right : Edition → ℕ → ℕ → List ℕ → List ℕ → Type 0
-Right e n k C s = (x : Stand) (S : List (List ℕ)) → Fresh n k x → Series k S → RightOver n k (λ F. place C) (λ F. M e n k s) (λ F. N e n k s) x S
+pub record Right (e : Edition) (n k : ℕ) (C s : List ℕ) : Type 0 where
+  pub over : (x : Stand) (S : List (List ℕ)) → Fresh n k x → Series k S → RightOver n k (λ F. place C) (outcomeOn e n k s x S) S

@@ -3,36 +3,37 @@
 --   call-given       the refusal of a call is what its table gives
 --   call-refused     a refused call changes nothing
 --   call-done        a call that is not refused is carried out
---   call-idle        a call that hands out no tick hands out no words
+--   call-past        reasons that give nothing change nothing
+--   call-leaving     a call that hands out a tick hands out 2^k words, and any other none
+--   call-idle        so one that hands out no tick hands out no words
 --   call-possible    after a call that is not refused a possible state is possible
 --   call-filled      and the filled marks have grown by the words that came, 2^k or none, and shrunk by those that were handed out, 2^k or none
 --   sheet-call-sound               where a call with a sheet is not refused, nothing was wrong
 --   sheet-call-possible, sheet-call-filled      so both hold of it, whatever the sheet
-use Prim.Native.Nat.{ℕ, _+_, _-_, _^_, _<_, _≤_}
+use Prim.Native.Nat.{ℕ, _+_, _^_, _<_, _≤_}
 use mathlib.Core.Path.{_≡_, refl, sym, ap, _∙_}
-use mathlib.Core.Bool.{Bool, true, false, cond}
+use mathlib.Core.Bool.{Bool, false, cond}
 use mathlib.Core.List.{List, [], _∷_, _++_}
 use mathlib.Core.Option.{Option, none, some}
 use native.Mathlib.Decide.{ℕ-discrete, decLt}
 use native.Mathlib.Omega.{arith}
 use borrow.Author.Tests.{lt-ltb, le-ltb, eq-eqb, ne-eqb}
-use lib.ListN.{length}
+use lib.ListN.{length, getD, length-map}
 use Rattle.kinds.specs.Edition.{Edition}
 use Rattle.kinds.specs.Frame.{ticks}
 use Rattle.kinds.specs.Lowest.{Reason, lowest}
 use Rattle.kinds.specs.declared.Refusal.{Refusal}
-use Rattle.kinds.proofs.TruthLaws.{false≢true}
-use Rattle.kinds.proofs.LowestLaws.{lowest-none, lowest-after}
+use Rattle.kinds.proofs.LowestLaws.{lowest-none, lowest-append, lowest-after}
 use Rattle.bits.specs.Image.{AllBelow}
 use Rattle.maps.specs.Cells.{M, N}
-use Rattle.run.specs.Memory.{Memory, filledMarks, wordsAt}
+use Rattle.run.specs.Memory.{Memory, filledMarks}
 use Rattle.run.specs.Faults.{faults}
-use Rattle.run.specs.States.{Possible, reading, afterWrite, turned, next}
-use Rattle.run.specs.Call.{placesOf, readsOf, writesOf, accessOf, Outcome, carriedOut, refused, outcome, call}
+use Rattle.run.specs.States.{Possible, afterWrite, turned, next}
+use Rattle.run.specs.Call.{readsOf, writesOf, accessOf, Outcome, carriedOut, refused, outcome, call}
 use Rattle.run.specs.Tool.{rightTick, beforeFaults, sheetCall}
 use Rattle.run.specs.declared.State.{State}
 use Rattle.run.proofs.TableLaws.{Sound, run-sound}
-use Rattle.run.proofs.PlaceLaws.{reads-length, writes-length, cell-into, reads-below, writes-below}
+use Rattle.run.proofs.PlaceLaws.{nothing, reads-length, writes-length, cell-into, reads-below, writes-below}
 use Rattle.run.proofs.CountLaws.{apart, served-filled}
 
 module _ (T : ℕ) where
@@ -75,16 +76,18 @@ module _ (t : List Reason) (n k : ℕ) (f g : ℕ → ℕ) (st : State) (ws : Li
   pub call-done : this .refusal ≡ none → this ≡ carriedOut n k f g st ws m
   call-done e = comes (sym call-given ∙ e)
 
-  pub call-idle : this .handed ≡ false → this .leaving ≡ []
-  call-idle = go (lowest (t ++ faults k writes reads (m .marks)))
-    where
-      nothing : (b : Bool) → b ≡ false → wordsAt (cond b (placesOf n k g (1 - st .h) (st .r)) []) (m .words) ≡ []
-      nothing true e = false≢true (sym e)
-      nothing false e = refl
+  pub call-past : lowest t ≡ none → this ≡ call [] n k f g st ws m
+  call-past given = comes (lowest-append t _ (lowest-none t .0 given))
 
-      go : (o : Option Refusal) → outcome o n k f g st ws m .handed ≡ false → outcome o n k f g st ws m .leaving ≡ []
-      go none = nothing (reading (ticks n k) st)
-      go (some x) = λ _. refl
+  pub call-leaving : length (this .leaving) ≡ cond (this .handed) (2 ^ k) 0
+  call-leaving = go (lowest (t ++ faults k writes reads (m .marks)))
+    where
+      go : (o : Option Refusal) → length (outcome o n k f g st ws m .leaving) ≡ cond (outcome o n k f g st ws m .handed) (2 ^ k) 0
+      go none = length-map reads (λ (x : ℕ). getD (m .words) x 0) ∙ reads-length n k g st
+      go (some x) = refl
+
+  pub call-idle : this .handed ≡ false → this .leaving ≡ []
+  call-idle e = nothing (this .leaving) (call-leaving ∙ ap (λ (b : Bool). cond b (2 ^ k) 0) e)
 
   module _ (ok : this .refusal ≡ none) where
     pub call-possible : Possible (ticks n k) st → Possible (ticks n k) (this .state)

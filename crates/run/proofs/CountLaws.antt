@@ -1,6 +1,7 @@
 -- Marks and words that are put in places.
 --   put-other       a place that nothing was put in keeps its content
 --   Different cs    the places of cs are different
+--   put-in          where they are, each has the number that was put in it
 --   apart           cells that don't clash are different
 --   served-filled   a call that writes empty cells and reads filled ones adds as many filled marks as it writes, and takes away as many as it reads
 use Prim.Native.Nat.{ℕ, zero, suc, _+_, _*_, _<_}
@@ -11,7 +12,7 @@ use native.Mathlib.Decide.{ℕ-discrete}
 use native.Mathlib.Nat.{suc-mul}
 use native.Mathlib.Omega.{arith}
 use lib.ListN.{length, getD, set, length-set}
-use lib.Seq.{getD-set-other}
+use lib.Seq.{getD-set-same, getD-set-other}
 use Rattle.kinds.specs.Frame.{bankOf}
 use Rattle.kinds.proofs.TruthLaws.{stable}
 use Rattle.bits.specs.Image.{AllBelow}
@@ -38,6 +39,17 @@ set-filled (suc u ∷ l) (suc x) v h = omega (arith, set-filled l x v (omega ari
 
 abbrev pub Different : List ℕ → Type 0
 Different cs = (p q : ℕ) → p < q → q < length cs → getD cs p 0 ≢ getD cs q 0
+
+pub put-in : (cs vs l : List ℕ) → Different cs → AllBelow (length l) cs → length vs ≡ length cs → (p : ℕ) → p < length cs
+    → getD (put cs vs l) (getD cs p 0) 0 ≡ getD vs p 0
+unfolding put
+put-in [] vs l different inside each p h = absurd (omega arith)
+put-in (x ∷ cs) [] l different inside each p h = absurd (omega arith)
+put-in (x ∷ cs) (v ∷ vs) l different inside each zero h =
+    put-other cs vs (set l x v) x (λ p b same. different 0 (suc p) (omega arith) (omega arith) (sym same)) ∙ getD-set-same l x v 0 (inside 0 (omega arith))
+put-in (x ∷ cs) (v ∷ vs) l different inside each (suc p) h =
+    put-in cs vs (set l x v) (λ i j b e. different (suc i) (suc j) (omega arith) (omega arith)) (λ i b. rw length-set (inside (suc i) (omega arith))) (omega arith) p
+    (omega arith)
 
 pub apart : (k : ℕ) (cs : List ℕ) → ¬ Clash k cs → Different cs
 apart k cs none p q l h same = none (p, omega arith, (q, h, (l, ap (bankOf k) same)))

@@ -1,23 +1,30 @@
 -- Numbers that go to places of a list.
 --   same-memory            memories of the same words and marks are the same
+--   words-at               the words in cells, one by one
+--   put-nil                where there are no places nothing is put
 --   put-length             no place is gained or lost
 --   Putting cs vs l₀ l p   l is l₀ after the first p numbers went: those that are left make of l what all of them make of l₀. There is a number for each place
 --   put-start, put-more, put-done      before the first; after one more; after the last
 --   Marking v cs l₀ l p    the same, where each number is v
 --   mark-start, mark-more  before the first; after one more
-use Prim.Native.Nat.{ℕ, _+_, _≤_, _<_}
+use Prim.Native.Nat.{ℕ, zero, suc, _+_, _≤_, _<_}
 use mathlib.Core.Path.{_≡_, refl, sym, ap, _∙_}
 use mathlib.Core.List.{List, [], _∷_}
 use native.Mathlib.Numerals.{add-one}
 use native.Mathlib.Omega.{arith}
 use lib.ListN.{length, getD, set, drop, replicate, length-set, length-replicate, getD-replicate, drop-of-length-le}
 use lib.Seq.{drop-cons}
-use Rattle.run.specs.Memory.{Memory, put}
+use Rattle.run.specs.Memory.{Memory, put, wordsAt}
 
 pub same-memory : {v w l r : List ℕ} → v ≡ w → l ≡ r → _≡_ {A = Memory} (record { words = v; marks = l }) (record { words = w; marks = r })
 same-memory e f = cc
 
-put-nil : (vs l : List ℕ) → put [] vs l ≡ l
+pub words-at : (cs l : List ℕ) (p : ℕ) → p < length cs → getD (wordsAt cs l) p 0 ≡ getD l (getD cs p 0) 0
+words-at [] l p h = absurd (omega arith)
+words-at (x ∷ cs) l zero h = refl
+words-at (x ∷ cs) l (suc p) h = words-at cs l p (omega arith)
+
+pub put-nil : (vs l : List ℕ) → put [] vs l ≡ l
 unfolding put
 put-nil vs l = refl
 

@@ -1,6 +1,8 @@
 -- Places of the memory, and the cells that a call reads and writes.
+--   half-bank          the bank of a place is that of its cell
 --   halves-apart       places of two halves are different
 --   places-at          the cells of a tick, one by one
+--   places-length      there are 2^k of them
 --   reads-length, writes-length    a call reads 2^k cells or none, and writes 2^k or none
 --   reads-few          so it reads at most 2^k
 --   places-clash       the cells of a tick clash exactly when two of its words have one bank
@@ -9,6 +11,7 @@
 --   reads-below, writes-below      so are those that a call reads, and those that it writes
 --   sides-apart        and no place that it writes is one that it reads
 --   are-places         a list of cells, each with the start of a half added, is the places of a tick
+--   nothing            a list without numbers is the empty one
 --   are-writes, are-reads          a list that has the right length and, where that is 2^k, these places, is what a call writes, or what it reads
 use Prim.Native.Nat.{ℕ, _+_, _-_, _*_, _/_, _^_, _<_, _≤_}
 use mathlib.Core.Path.{_≡_, refl, sym, ap, ap₂, _∙_}
@@ -20,24 +23,23 @@ use native.Mathlib.Omega.{arith}
 use lib.Arith.{digits-lt}
 use lib.ListN.{length, getD}
 use lib.Pow.{pow-add, high}
-use Rattle.kinds.specs.Frame.{tickBits, ticks, tickOf, portOf, wordAt, bankOf, inOrder}
-use Rattle.kinds.proofs.FrameLaws.{in-order-length, in-order-at, in-order-is}
+use Rattle.kinds.specs.Frame.{ticks, tickOf, portOf, wordAt, bankOf, inOrder}
+use Rattle.kinds.proofs.FrameLaws.{frame-whole, in-order-length, in-order-at, in-order-is}
 use Rattle.bits.specs.Image.{AllBelow}
 use Rattle.sheet.specs.Sheet.{Side}
 use Rattle.sheet.specs.Layout.{InRange}
 use Rattle.maps.specs.Cells.{bankAt, cellAt, cellOf}
-use Rattle.maps.proofs.CellLaws.{bank-of-cell, cell-lt, cell-word}
+use Rattle.maps.proofs.CellLaws.{cell-lt, cell-word, word-bank}
 use Rattle.run.specs.Faults.{Clash}
 use Rattle.run.specs.States.{reading}
 use Rattle.run.specs.Call.{placeIn, placesOf, readsOf, writesOf}
 use Rattle.run.specs.Tool.{rightTick}
 use Rattle.run.specs.declared.State.{State}
 
-half-bank : {n k : ℕ} → k ≤ n → (h x : ℕ) → bankOf k (placeIn n h x) ≡ bankOf k x
+pub half-bank : {n k : ℕ} → k ≤ n → (h x : ℕ) → bankOf k (placeIn n h x) ≡ bankOf k x
 half-bank {n} {k} within h x =
-    let parts : 2 ^ n ≡ 2 ^ tickBits n k * 2 ^ k = ap (λ (i : ℕ). 2 ^ i) (omega arith) ∙ pow-add 2 (tickBits n k) k in
-    ap (λ (i : ℕ). bankOf k (i + x)) (ap (λ (i : ℕ). h * i) parts ∙ sym (mul-assoc h (2 ^ tickBits n k) (2 ^ k)))
-    ∙ mul-add-mod-self-right (h * 2 ^ tickBits n k) (2 ^ k) x
+    ap (λ (i : ℕ). bankOf k (i + x)) (ap (λ (i : ℕ). h * i) (sym (frame-whole within)) ∙ sym (mul-assoc h (ticks n k) (2 ^ k)))
+    ∙ mul-add-mod-self-right (h * ticks n k) (2 ^ k) x
 
 pub halves-apart : (n : ℕ) {g h x y : ℕ} → x < 2 ^ n → y < 2 ^ n → g ≢ h → placeIn n g x ≢ placeIn n h y
 halves-apart n {g} {h} l r differ same = differ (sym (high g n l) ∙ ap (λ (i : ℕ). i / 2 ^ n) same ∙ high h n r)
@@ -46,7 +48,7 @@ module _ (n k : ℕ) (f : ℕ → ℕ) where
   pub places-at : (h c p : ℕ) → p < 2 ^ k → getD (placesOf n k f h c) p 0 ≡ placeIn n h (f (wordAt k c p))
   places-at h c = in-order-at (2 ^ k) (λ p. placeIn n h (f (wordAt k c p))) 0
 
-  places-length : (h c : ℕ) → length (placesOf n k f h c) ≡ 2 ^ k
+  pub places-length : (h c : ℕ) → length (placesOf n k f h c) ≡ 2 ^ k
   places-length h c = in-order-length (2 ^ k) (λ p. placeIn n h (f (wordAt k c p)))
 
   pub reads-length : (st : State) → length (readsOf n k f st) ≡ cond (reading (ticks n k) st) (2 ^ k) 0
@@ -69,7 +71,7 @@ module _ (n k : ℕ) (f : ℕ → ℕ) where
 
 module _ {n k : ℕ} {S : Side} (used : InRange n k S) (within : k ≤ n) where
   place-bank : (h c p : ℕ) → p < 2 ^ k → bankOf k (placeIn n h (cellOf k S (wordAt k c p))) ≡ bankAt S c p
-  place-bank h c p l = half-bank within h (cellOf k S (wordAt k c p)) ∙ ap (bankOf k) (sym (cell-word k S c p l)) ∙ bank-of-cell used c p
+  place-bank h c p l = half-bank within h (cellOf k S (wordAt k c p)) ∙ word-bank used c p l
 
   cell-bank : (h c p : ℕ) → p < 2 ^ k → bankOf k (getD (placesOf n k (cellOf k S) h c) p 0) ≡ bankAt S c p
   cell-bank h c p l = ap (bankOf k) (places-at n k (cellOf k S) h c p l) ∙ place-bank h c p l
@@ -123,7 +125,7 @@ are-places n k S h c {base} {l} b e =
     (ap length e ∙ in-order-length (2 ^ k) _)
     (λ p i. ap (λ (x : List ℕ). getD x p 0) e ∙ in-order-at (2 ^ k) _ 0 p i ∙ ap₂ _+_ b (cell-word k S c p i))
 
-nothing : (l : List ℕ) → length l ≡ 0 → l ≡ []
+pub nothing : (l : List ℕ) → length l ≡ 0 → l ≡ []
 nothing [] e = refl
 nothing (x ∷ l) e = absurd (omega arith)
 

@@ -8,22 +8,22 @@ use Prim.Native.Nat.{ℕ}
 use mathlib.Core.Path.{_≡_, refl, sym, ap, _∙_}
 use mathlib.Core.Bool.{Bool, false}
 use mathlib.Core.List.{List, [], _++_}
-use mathlib.Core.Option.{Option, none, some}
+use mathlib.Core.Option.{none, some}
 use Rattle.kinds.specs.Edition.{Edition}
 use Rattle.kinds.specs.Frame.{ticks}
 use Rattle.kinds.specs.Lowest.{Reason, lowest}
 use Rattle.kinds.specs.declared.Refusal.{Refusal}
-use Rattle.kinds.proofs.LowestLaws.{none-some, lowest-append, lowest-none}
+use Rattle.kinds.proofs.LowestLaws.{none-some}
 use Rattle.maps.specs.Cells.{M, N}
 use Rattle.run.specs.Memory.{Memory, wordsAt, served, onto}
 use Rattle.run.specs.Faults.{faults}
 use Rattle.run.specs.States.{reading, next}
-use Rattle.run.specs.Call.{readsOf, writesOf, accessOf, Outcome, outcome, call}
+use Rattle.run.specs.Call.{readsOf, writesOf, accessOf, Outcome, call}
 use Rattle.run.specs.Tool.{beforeFaults, refusalOf, stateAfter, handedOut, ComesOf, Ticks}
 use Rattle.run.specs.declared.State.{State}
 use Rattle.run.specs.declared.Ticked.{Ticked}
 use Rattle.run.specs.declared.Ticked.the-variants.{Done, Refused}
-use Rattle.run.proofs.CallLaws.{call-given, call-refused, call-done, call-idle}
+use Rattle.run.proofs.CallLaws.{call-given, call-refused, call-done, call-past, call-idle}
 
 comes-by : {o x : Outcome} {st : State} {out : List ℕ} {a : Ticked} {m' : Memory} {out' : List ℕ} → o ≡ x → ComesOf x st out a m' out' → ComesOf o st out a m' out'
 comes-by e c = rw e c
@@ -43,7 +43,7 @@ module _ (t : List Reason) (n k : ℕ) (f g : ℕ → ℕ) (st : State) (ws : Li
       (record { refusal = refl; state = state; handed = handed; memory = memory; buffer = buffer })
 
   pub comes-past : {a : Ticked} → lowest t ≡ none → ComesOf (call [] n k f g st ws m) st out a m' out' → ComesOf (call t n k f g st ws m) st out a m' out'
-  comes-past given = comes-by (ap (λ (o : Option Refusal). outcome o n k f g st ws m) (lowest-append t _ (lowest-none t .0 given)))
+  comes-past given = comes-by (call-past t n k f g st ws m given)
 
 module _ (e : Edition) (n k : ℕ) (s : List ℕ) (st : State) (ws : List ℕ) (m : Memory) (out : List ℕ) where
   pub ticks-idle : (a : Ticked) (m' : Memory) (out' : List ℕ) → Ticks e n k s st ws m out a m' out' → handedOut a ≡ false → out' ≡ out

@@ -1,5 +1,6 @@
 -- Counting by maps. One step serves all: an injective map into b that misses some y < b is into b - 1 once its value b - 1 is redirected to y.
 --   pigeonhole            no injective map from a into b unless a ≤ b
+--   apart-injective       a map that sends no number to what it sends a later one to is injective
 --   injective-onto        an injective map of the numbers below N is onto
 --   preimages             a map onto has a preimage of each number, to be computed
 --   onto-injective        a map onto the numbers below N is injective
@@ -18,6 +19,12 @@ use native.Mathlib.Omega.{arith}
 use lib.Pow.{pow-lt}
 use Rattle.span.specs.Maps.{Into, Injective, Onto, Bijection}
 use Rattle.kinds.specs.Search.{someBelow}
+
+pub apart-injective : {f : ℕ → ℕ} {a : ℕ} → ((i j : ℕ) → i < j → j < a → f i ≢ f j) → Injective f a
+apart-injective apart i j h l same = elim (decLt i j) [
+  | yes less ↦ absurd (apart i j less l same)
+  | no not ↦ elim (decLt j i) [ yes more ↦ absurd (apart j i more h (sym same)) | no neither ↦ omega arith ]
+]
 
 -- x, but y where x is top
 abbrev instead : {x top : ℕ} → Dec (x ≡ top) → ℕ → ℕ

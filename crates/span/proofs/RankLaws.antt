@@ -6,6 +6,7 @@
 --   rank-positions       the rank is the number of kept positions
 --   independent-rank, rank-independent    the rank is the length exactly when the list is independent
 --   independent-all-kept, all-kept-independent    the scan keeps all exactly when the list is independent
+--   columns-sum          the columns of a map are sums where its values at 1, 2, 4, .. are
 --   rank-xor             the rank of a sum of two maps is at most the sum of the ranks
 --   rank-after-inner, rank-after-outer    the rank of a composition is at most that of either map
 use Prim.Native.Nat.{ℕ, zero, suc, _+_, _^_, _≤_, _<_}
@@ -101,7 +102,7 @@ all-kept-independent vs all = rank-independent vs (rank-positions vs ∙ all-pla
 
 -- ---- maps, by their columns
 
-columns-sum : (n : ℕ) (f : ℕ → ℕ) {ds : List ℕ} → ((j : ℕ) → j < n → SumOf ds (f (2 ^ j)))
+pub columns-sum : (n : ℕ) (f : ℕ → ℕ) {ds : List ℕ} → ((j : ℕ) → j < n → SumOf ds (f (2 ^ j)))
     → (j : ℕ) → j < length (columns n f) → SumOf ds (getD (columns n f) j 0)
 columns-sum n f sums j h = let k : j < n = omega (arith, columns-length n f) in rw (columns-at n f j k) (sums j k)
 

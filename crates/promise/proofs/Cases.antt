@@ -1,10 +1,10 @@
--- The meanings on sheets of 01: 6 to 9 of passed and spoilt sheets; what a series of calls hands out; and a spoilt sheet that a series shows to be wrong.
+-- The meanings on sheets of 01: 6 to 9 of passed and of wrong sheets; what series of calls hand out; and how the wrong sheets show.
 use Prim.Native.Nat.{ℕ}
 use mathlib.Core.Path.{_≡_, refl}
 use mathlib.Core.List.{List, [], _∷_, _++_, map, flatten}
 use native.Mathlib.Decide.{ℕ-discrete, decLe, decLt}
 use lib.Count.{ones}
-use lib.ListN.{length, set, replicate}
+use lib.ListN.{length, getD, set, replicate}
 use Rattle.kinds.specs.Edition.{edition1}
 use Rattle.kinds.specs.Frame.{inOrder}
 use Rattle.kinds.specs.Refusal.{given}
@@ -16,9 +16,9 @@ use Rattle.span.specs.Maps.{bijection?}
 use Rattle.order.specs.Order.{place}
 use Rattle.sheet.specs.Sheet.{stagesIn}
 use Rattle.sheet.proofs.Cases.{reversal}
-use Rattle.maps.specs.Cells.{afterStages, M, N}
+use Rattle.maps.specs.Cells.{afterStages}
 use Rattle.run.specs.Memory.{put}
-use Rattle.promise.specs.Series.{Stand, standing, outcomeOf, wordsBefore, wordIn}
+use Rattle.promise.specs.Series.{wordIn, dueCall, duePort, Stand, standing, outcomeOn}
 use Rattle.promise.specs.Passes.{passTable}
 
 -- what a sheet's maps and a call compute with
@@ -29,20 +29,39 @@ computed = tt
 abbrev zeros : ℕ → List ℕ
 zeros n = replicate n 0
 
--- the sheets planned for Gray code and for the identity at n 2, k 1
+-- a side of n 2, from its address columns, its wiring column and what comes after that
+abbrev side : ℕ → ℕ → ℕ → List ℕ → List ℕ
+side a b w rest = (a ∷ b ∷ zeros 8) ++ (w ∷ zeros 4) ++ rest
+
+abbrev no-stage : List ℕ
+no-stage = zeros 17
+
+abbrev one-stage : List ℕ
+one-stage = 1 ∷ 1 ∷ 1 ∷ zeros 14
+
+-- at n 2, k 1: the sheets planned for Gray code, for the identity, and for the columns 2 3, whose inverse is 3 1
 abbrev gray : List ℕ
-gray = (0 ∷ 1 ∷ zeros 8) ++ (1 ∷ zeros 4) ++ (1 ∷ 1 ∷ 1 ∷ zeros 14) ++ (0 ∷ 1 ∷ zeros 8) ++ (1 ∷ zeros 21)
+gray = side 0 1 1 one-stage ++ side 0 1 1 no-stage
 
 abbrev identity : List ℕ
-identity = (0 ∷ 1 ∷ zeros 8) ++ (1 ∷ zeros 21) ++ (0 ∷ 1 ∷ zeros 8) ++ (1 ∷ zeros 21)
+identity = side 0 1 1 no-stage ++ side 0 1 1 no-stage
+
+abbrev turning : List ℕ
+turning = side 1 1 1 no-stage ++ side 0 1 1 one-stage
+
+-- at n 2, k 2: the one for the columns 2 1
+abbrev one-tick : List ℕ
+one-tick = zeros 10 ++ (2 ∷ 1 ∷ zeros 20) ++ zeros 10 ++ (1 ∷ 2 ∷ zeros 20)
 
 abbrev verdict : ℕ × ℕ × List ℕ × List ℕ → ℕ
 verdict (n, k, C, s) = given (lowest (passTable edition1 n k C s))
 
+-- 01's cases, and an order for its inverse
 verdicts : map verdict (
-    (3, 1, 4 ∷ 2 ∷ 1 ∷ [], reversal) ∷ (2, 1, 1 ∷ 3 ∷ [], gray) ∷ (2, 1, 1 ∷ 2 ∷ [], identity) ∷ (2, 1, 1 ∷ 3 ∷ [], identity)
+    (3, 1, 4 ∷ 2 ∷ 1 ∷ [], reversal) ∷ (2, 1, 1 ∷ 3 ∷ [], gray) ∷ (2, 1, 1 ∷ 2 ∷ [], identity) ∷ (2, 1, 2 ∷ 3 ∷ [], turning) ∷ (2, 2, 2 ∷ 1 ∷ [], one-tick)
+    ∷ (2, 1, 1 ∷ 3 ∷ [], identity) ∷ (2, 1, 3 ∷ 1 ∷ [], turning)
     ∷ (3, 1, 4 ∷ 2 ∷ 1 ∷ [], set reversal 17 1) ∷ (3, 1, 4 ∷ 2 ∷ 1 ∷ [], set reversal 10 0) ∷ (3, 1, 4 ∷ 2 ∷ 1 ∷ [], set reversal 42 0) ∷ []
-    ) ≡ 0 ∷ 0 ∷ 0 ∷ 9 ∷ 8 ∷ 6 ∷ 7 ∷ []
+    ) ≡ 0 ∷ 0 ∷ 0 ∷ 0 ∷ 0 ∷ 9 ∷ 9 ∷ 8 ∷ 6 ∷ 7 ∷ []
 unfolding computed
 verdicts = refl
 
@@ -51,16 +70,18 @@ fresh places idle = record { state = record { a = 0; h = 0; r = idle }; memory =
 
 -- the number that each call of a series is answered with, and the words that it hands out
 abbrev told : ℕ → ℕ → List ℕ → Stand → List (List ℕ) → List (ℕ × List ℕ)
-told n k s x S = inOrder (length S) (λ j. let o = outcomeOf n k (λ F. M edition1 n k s) (λ F. N edition1 n k s) x S j in (given (o .refusal), o .leaving))
-
-abbrev gray-told : List (List ℕ) → List (ℕ × List ℕ)
-gray-told = told 2 1 gray (fresh 8 2)
+told n k s x S = inOrder (length S) (λ j. let o = outcomeOn edition1 n k s x S j in (given (o .refusal), o .leaving))
 
 -- Gray code: the frame 0 1 2 3 leaves as 0 1 3 2. A frame leaves from the call after the one that completes it, blank or not, while the next comes in.
-leaving : gray-told ((0 ∷ 1 ∷ []) ∷ [] ∷ (2 ∷ 3 ∷ []) ∷ [] ∷ (4 ∷ 5 ∷ []) ∷ (6 ∷ 7 ∷ []) ∷ (8 ∷ 9 ∷ []) ∷ [] ∷ []) ≡ (
+leaving : told 2 1 gray (fresh 8 2) ((0 ∷ 1 ∷ []) ∷ [] ∷ (2 ∷ 3 ∷ []) ∷ [] ∷ (4 ∷ 5 ∷ []) ∷ (6 ∷ 7 ∷ []) ∷ (8 ∷ 9 ∷ []) ∷ [] ∷ []) ≡ (
     (0, []) ∷ (0, []) ∷ (0, []) ∷ (0, 0 ∷ 1 ∷ []) ∷ (0, 3 ∷ 2 ∷ []) ∷ (0, []) ∷ (0, 4 ∷ 5 ∷ []) ∷ (0, 7 ∷ 6 ∷ []) ∷ [])
 unfolding computed
 leaving = refl
+
+-- where a frame is one tick
+at-once : told 2 2 one-tick (fresh 8 1) ((0 ∷ 1 ∷ 2 ∷ 3 ∷ []) ∷ (4 ∷ 5 ∷ 6 ∷ 7 ∷ []) ∷ [] ∷ [] ∷ []) ≡ ((0, []) ∷ (0, 0 ∷ 2 ∷ 1 ∷ 3 ∷ []) ∷ (0, 4 ∷ 6 ∷ 5 ∷ 7 ∷ []) ∷ (0, []) ∷ [])
+unfolding computed
+at-once = refl
 
 abbrev one-frame : List (List ℕ)
 one-frame = (0 ∷ 1 ∷ []) ∷ (2 ∷ 3 ∷ []) ∷ (4 ∷ 5 ∷ []) ∷ (6 ∷ 7 ∷ []) ∷ replicate 4 []
@@ -68,7 +89,8 @@ one-frame = (0 ∷ 1 ∷ []) ∷ (2 ∷ 3 ∷ []) ∷ (4 ∷ 5 ∷ []) ∷ (6 �
 abbrev quiet : List (ℕ × List ℕ)
 quiet = replicate 4 (0, [])
 
--- The bit reversal sheet, and spoilt: with write control 1 for 2 tick 2 finds its cells filled; with write wiring 0 two words of the first call want one bank; with read wiring 0 the first call that reads finds two that do.
+-- The bit reversal sheet, and spoilt: with write control 1 for 2 tick 2 finds its cells filled; with write wiring 0 two words of the first call want one bank; with read wiring 0 the first call that
+-- reads finds two that do.
 faults : map (λ s. told 3 1 s (fresh 16 4) one-frame) (reversal ∷ set reversal 17 1 ∷ set reversal 10 0 ∷ set reversal 42 0 ∷ []) ≡ (
     (quiet ++ ((0, 0 ∷ 4 ∷ []) ∷ (0, 2 ∷ 6 ∷ []) ∷ (0, 1 ∷ 5 ∷ []) ∷ (0, 3 ∷ 7 ∷ []) ∷ []))
     ∷ ((0, []) ∷ (0, []) ∷ (12, []) ∷ (12, []) ∷ quiet)
@@ -77,3 +99,15 @@ faults : map (λ s. told 3 1 s (fresh 16 4) one-frame) (reversal ∷ set reversa
     ∷ [])
 unfolding computed
 faults = refl
+
+-- each word of one frame, completed in call 1, and the word that leaves when and where it is due under Gray code
+abbrev judged : List ℕ → List (List ℕ) → List (ℕ × ℕ)
+judged s S =
+    inOrder 4 (λ i. (wordIn 2 S 0 i, getD (outcomeOn edition1 2 1 s (fresh 8 2) S (dueCall 1 (place (1 ∷ 3 ∷ [])) 1 i) .leaving) (duePort 1 (place (1 ∷ 3 ∷ [])) i) 0))
+
+-- equal words come out well on the identity's sheet too, and different words don't
+content : map (λ (s, S). judged s S) (
+    (gray, (0 ∷ 0 ∷ []) ∷ (1 ∷ 0 ∷ []) ∷ [] ∷ [] ∷ []) ∷ (identity, (5 ∷ 5 ∷ []) ∷ (5 ∷ 5 ∷ []) ∷ [] ∷ [] ∷ []) ∷ (identity, (0 ∷ 0 ∷ []) ∷ (1 ∷ 0 ∷ []) ∷ [] ∷ [] ∷ []) ∷ []
+    ) ≡ ((0, 0) ∷ (0, 0) ∷ (1, 1) ∷ (0, 0) ∷ []) ∷ replicate 4 (5, 5) ∷ ((0, 0) ∷ (0, 0) ∷ (1, 0) ∷ (0, 1) ∷ []) ∷ []
+unfolding computed
+content = refl

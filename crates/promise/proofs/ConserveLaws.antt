@@ -1,10 +1,9 @@
 -- What a run keeps, from fresh, whatever its maps: they need only go into the 2^n cells of a half.
 --   conserved                    "words taken in, less words handed out, over the successful calls, equal the filled marks" (01, 'One tick of the run')
 --   met-possible                 every state met is possible
---   words-lent, marks-lent       the memory keeps its places
 --   sheet-conserved, sheet-met-possible      the first two for any sheet that keeps the layout
 --   tool-call                    a call of a series with a sheet is what the run makes of it: 1, 2, 5 and 10 don't apply
-use Prim.Native.Nat.{ℕ, zero, suc, _+_, _-_, _^_, _<_, _≤_}
+use Prim.Native.Nat.{ℕ, zero, suc, _+_, _^_, _<_, _≤_}
 use mathlib.Core.Path.{_≡_, refl, _∙_}
 use mathlib.Core.List.{List, [], _∷_}
 use mathlib.Core.Option.{Option, none, some}
@@ -26,7 +25,8 @@ use Rattle.run.specs.declared.State.{State}
 use Rattle.run.proofs.MemoryLaws.{put-length}
 use Rattle.run.proofs.PlaceLaws.{cell-into}
 use Rattle.run.proofs.CallLaws.{call-refused, call-done, call-past, call-leaving, call-possible, call-filled}
-use Rattle.promise.specs.Series.{callAt, Series, Stand, Fresh, incoming, standing, standingOn, outcomeOn, takenBy, wordsTaken, wordsHanded}
+use Rattle.promise.specs.Series.{callAt, Series, Stand, Fresh, incoming, outgoing, standing, standingOn, outcomeOn, takenBy, wordsTaken, wordsHanded}
+use Rattle.promise.proofs.SeriesLaws.{call-count}
 
 -- what a call keeps, where `taken` is how many words it took in
 record Keeps (T : ℕ) (m : Memory) (taken : ℕ) (o : Outcome) : Type 0 where
@@ -81,7 +81,7 @@ module _ {n k : ℕ} {f g : ℕ → ℕ → ℕ} {x : Stand} (into : (F i : ℕ)
   kept-more j h before =
       let at = standing n k f g x S j in
       let F = incoming n S j in
-      let this = call-keeps n k (f F) (g (F - 1)) (at .state) (callAt S j) (at .memory) (into F) (from (F - 1)) (before .possible) (before .marks) (series j h .count) _ refl in
+      let this = call-keeps n k (f F) (g (outgoing n S j)) (at .state) (callAt S j) (at .memory) (into F) (from (outgoing n S j)) (before .possible) (before .marks) (call-count (callAt S j) (series j h)) _ refl in
       record {
         words = this .words ∙ before .words;
         marks = this .marks ∙ before .marks;
@@ -98,12 +98,6 @@ module _ {n k : ℕ} {f g : ℕ → ℕ → ℕ} {x : Stand} (into : (F i : ℕ)
 
   pub met-possible : (j : ℕ) → j ≤ length S → Possible (ticks n k) (standing n k f g x S j .state)
   met-possible j h = kept j h .possible
-
-  pub words-lent : (j : ℕ) → j ≤ length S → length (standing n k f g x S j .memory .words) ≡ 2 ^ (n + 1)
-  words-lent j h = kept j h .words
-
-  pub marks-lent : (j : ℕ) → j ≤ length S → length (standing n k f g x S j .memory .marks) ≡ 2 ^ (n + 1)
-  marks-lent j h = kept j h .marks
 
 module _ {e : Edition} {n k : ℕ} {s : List ℕ} {x : Stand} (within : k ≤ n) (formed : WellFormed e n k s) (S : List (List ℕ)) (fresh : Fresh n k x)
     (series : Series k S) (j : ℕ) (reached : j ≤ length S) where
@@ -132,4 +126,4 @@ tool-call {e} {n} {k} {s} {x} sized whole formed S fresh series j h out room =
     let at = standingOn e n k s x S j in
     let before = sheet-kept (omega (arith, sized .most)) formed S fresh series j (omega arith) in
     none-before e n k s (at .state) (callAt S j) (at .memory) out sized
-    (whole, (series j h .count, (room, (before .words, (before .marks, tt))))) formed (before .possible)
+    (whole, (call-count (callAt S j) (series j h), (room, (before .words, (before .marks, tt))))) formed (before .possible)

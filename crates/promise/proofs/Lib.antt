@@ -1,6 +1,7 @@
 -- Laws over every series.
 pub mod SeriesLaws
 pub mod StateLaws
+pub mod TurnLaws
 pub mod RefusalLaws
 pub mod HalfLaws
 pub mod FamilyLaws

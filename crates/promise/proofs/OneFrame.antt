@@ -8,9 +8,10 @@
 --   word-in               word i of frame 0 is u i
 --   one-frame-series      it is a series of calls, if the words have 32 bits
 use Prim.Native.Nat.{ℕ, zero, suc, _+_, _-_, _*_, _^_, _<_, _≤_}
-use mathlib.Core.Path.{_≡_, refl, sym, ap, _∙_}
+use mathlib.Core.Path.{_≡_, refl, ap, _∙_}
 use mathlib.Core.Bool.{cond}
 use mathlib.Core.List.{List, [], flatten}
+use mathlib.Core.Logic.{inl, inr}
 use native.Mathlib.Decide.{decLt}
 use native.Mathlib.Nat.{suc-mul, mod-lt}
 use native.Mathlib.Omega.{arith}
@@ -20,13 +21,8 @@ use lib.ListN.{length, getD}
 use lib.Pow.{pow-pos, suc-ones, split}
 use Rattle.kinds.specs.Frame.{tickBits, ticks, tickOf, portOf, wordAt, inOrder}
 use Rattle.kinds.proofs.FrameLaws.{frame-whole, tick-lt, in-order-length, in-order-at}
-use Rattle.run.specs.Tool.{rightTick}
 use Rattle.promise.specs.Series.{callAt, Series, wordsBefore, wordIn, CompletedIn}
 use Rattle.promise.proofs.SeriesLaws.{before-none, before-more, word-comes}
-
-right-tick : (k l : ℕ) → 0 < l → rightTick k l ≡ 2 ^ k
-right-tick k zero h = absurd (omega arith)
-right-tick k (suc l) h = refl
 
 module _ (n k : ℕ) (u : ℕ → ℕ) where
   abbrev T : ℕ
@@ -84,10 +80,10 @@ module _ (n k : ℕ) (u : ℕ → ℕ) where
   pub one-frame-series : ((i : ℕ) → u i < 2 ^ 32) → Series k one-frame
   one-frame-series small j h = elim (decLt j T) [
     | yes l ↦ record {
-      count = came j l ∙ sym (right-tick k (length (callAt one-frame j)) (some-came j l));
+      count = inl (came j l);
       words = λ p b. rw (came-at j p l (omega (arith, came j l))) (small (wordAt k j p));
     }
     | no late ↦
         let blank : callAt one-frame j ≡ [] = ap (callAt one-frame) (omega arith) ∙ blank-call (j - T) (omega (arith, one-frame-length)) in
-        rw blank (record { count = refl; words = λ p b. absurd (omega arith) })
+        rw blank (record { count = inr refl; words = λ p b. absurd (omega arith) })
   ]

@@ -40,7 +40,7 @@ module _ (e : Edition) {n k : ℕ} (within : k ≤ n) {C : List ℕ} (order : Or
     abbrev due : Outcome
     due = comes x S (T + 1 + c)
 
-    pub right-handed : due .handed ≡ true
+    right-handed : due .handed ≡ true
     right-handed = let (i, h, e) = word-of 0 (pow-pos k) in due-there 0 i (pow-pos k) h e .handed
 
     whole-tick : length (due .leaving) ≡ 2 ^ k

@@ -1,14 +1,21 @@
 -- What a series brings, call by call.
+--   call-count        a call brings as many words as the run asks for
 --   before-none       before call 0 nothing has come
 --   before-more       before the next call, the words of this one have come too
 --   word-comes        the word at port p of call j is the one that comes after p others and all before call j
 use Prim.Native.Nat.{ℕ, zero, suc, _+_, _<_}
 use mathlib.Core.Path.{_≡_, refl, ap, _∙_}
 use mathlib.Core.List.{List, [], _∷_, _++_, flatten}
+use mathlib.Core.Logic.{inl, inr}
 use native.Mathlib.Omega.{arith}
 use lib.ListN.{length, getD, take, length-append, List·getD-append}
 use lib.Seq.{getD-append-add}
-use Rattle.promise.specs.Series.{callAt, wordsBefore}
+use Rattle.run.specs.Tool.{rightTick}
+use Rattle.promise.specs.Series.{IsCall, callAt, wordsBefore}
+
+pub call-count : {k : ℕ} (ws : List ℕ) → IsCall k ws → length ws ≡ rightTick k (length ws)
+call-count [] is = refl
+call-count (w ∷ ws) is = elim (is .count) [ inl e ↦ e | inr e ↦ omega (arith, e) ]
 
 flatten-cons : (ws : List ℕ) (S : List (List ℕ)) → flatten (ws ∷ S) ≡ ws ++ flatten S
 unfolding flatten

@@ -24,7 +24,7 @@ use Rattle.run.specs.Tool.{rightTick}
 use Rattle.run.specs.declared.State.{State}
 use Rattle.run.proofs.CallLaws.{next-possible}
 use Rattle.promise.specs.Series.{IsCall, callAt, wordsBefore, incoming}
-use Rattle.promise.proofs.SeriesLaws.{before-more}
+use Rattle.promise.proofs.SeriesLaws.{call-count, before-more}
 
 module _ (T : ℕ) (st : State) where
   -- the read changes the reader alone
@@ -89,7 +89,7 @@ module _ {n k : ℕ} (within : k ≤ n) {S : List (List ℕ)} {j : ℕ} {st : St
           let (frame, then) = counted-by (incoming n S j) (st .a) _ _ state (omega (arith, before-more S j reach, ap length e, now .counted)) (now .possible .incoming) in
           (inl (record { frame = frame; reader = rw state; part = λ (some, _). omega (arith, ap length e) }), then)
       go (w ∷ ws) e =
-          let brings : length (callAt S j) ≡ 2 ^ k = is .count ∙ ap (λ (l : List ℕ). rightTick k (length l)) e in
+          let brings : length (callAt S j) ≡ 2 ^ k = call-count (callAt S j) is ∙ ap (λ (l : List ℕ). rightTick k (length l)) e in
           let more : wordsBefore S (suc j) ≡ incoming n S j * 2 ^ n + (st .a + 1) * 2 ^ k = omega (arith, before-more S j reach, brings, now .counted, add-mul (st .a) 1 (2 ^ k)) in
           elim (ℕ-discrete (st .a + 1) T) [
             | yes full ↦

@@ -9,14 +9,16 @@
 --   frame n S F              frame F
 --   tickIn k l c             tick c of the frame l: its 2^k words, by port
 --   CompletedIn n S F T      call T brings the last word of frame F
+--   TickDue n k S j          in call j a tick is due: "a frame completed in call T leaves in calls T+1 to T+2^t, blank or not"
 --   SamePattern S R          S and R have blank ticks at the same calls, and equally many words at the others
 -- Where a word is due, if its frame is completed in call T, under an order that sends word i to place P i:
---   dueCall k P T i          "a frame completed in call T leaves in calls T+1 to T+2^t, blank or not": in the one of its place's tick
+--   dueCall k P T i          in the call in which its place's tick is due
 --   duePort k P i            at its place's port
 -- The run, where f F i is the cell to which word i of frame F is written, and g F j the cell that is read for its place j:
 --   Stand                    where a run stands between two calls: the state, and the memory
 --   Fresh n k x              "marks zero, nothing coming in, half 0, reader idle". 2^(n+1) words are lent and as many marks; the words may be any
---   incoming n S j           the frame that comes in at call j; what is read then, if anything is left, is of the frame before it
+--   incoming n S j           the frame that comes in at call j
+--   outgoing n S j           the frame before it: what is read in call j, if anything is left to read, is of this one
 --   called n k f g S j x     what comes of call j, made from x
 --   standing n k f g x S j   where a run that starts at x stands before call j
 --   outcomeOf n k f g x S j  what comes of call j then
@@ -33,6 +35,7 @@ use Prim.Native.Nat.{ℕ, zero, suc, _+_, _-_, _*_, _/_, _^_, _<_, _≤_}
 use mathlib.Core.Path.{_≡_}
 use mathlib.Core.Bool.{true}
 use mathlib.Core.List.{List, [], flatten}
+use mathlib.Core.Logic.{_⊎_}
 use mathlib.Core.Option.{Option, none, some}
 use lib.ListN.{length, getD, take}
 use Rattle.kinds.specs.Edition.{Edition}
@@ -45,14 +48,13 @@ use Rattle.sheet.specs.Layout.{AllZero}
 use Rattle.maps.specs.Cells.{M, N}
 use Rattle.run.specs.Memory.{Memory}
 use Rattle.run.specs.Call.{Outcome, call}
-use Rattle.run.specs.Tool.{rightTick}
 use Rattle.run.specs.declared.State.{State}
 
 abbrev pub Words32 : List ℕ → Type 0
 Words32 l = AllBelow (2 ^ 32) l
 
 pub record IsCall (k : ℕ) (ws : List ℕ) : Type 0 where
-  pub count : length ws ≡ rightTick k (length ws)
+  pub count : (length ws ≡ 2 ^ k) ⊎ (length ws ≡ 0)
   pub words : Words32 ws
 
 abbrev pub callAt : List (List ℕ) → ℕ → List ℕ
@@ -77,6 +79,14 @@ pub record CompletedIn (n : ℕ) (S : List (List ℕ)) (F T : ℕ) : Type 0 wher
   pub reached : T < length S
   pub not-before : wordsBefore S T < (F + 1) * 2 ^ n
   pub by-then : (F + 1) * 2 ^ n ≤ wordsBefore S (suc T)
+
+pub record TickDue (n k : ℕ) (S : List (List ℕ)) (j : ℕ) : Type 0 where
+  pub of-frame : ℕ
+  pub in-call : ℕ
+  pub tick : ℕ
+  pub completed : CompletedIn n S of-frame in-call
+  pub early : tick < ticks n k
+  pub then : j ≡ in-call + 1 + tick
 
 pub record SamePattern (S R : List (List ℕ)) : Type 0 where
   pub calls : length S ≡ length R
@@ -104,13 +114,16 @@ pub record Fresh (n k : ℕ) (x : Stand) : Type 0 where
 abbrev pub incoming : ℕ → List (List ℕ) → ℕ → ℕ
 incoming n S j = wordsBefore S j / 2 ^ n
 
+abbrev pub outgoing : ℕ → List (List ℕ) → ℕ → ℕ
+outgoing n S j = incoming n S j - 1
+
 abbrev pub takenBy : Option Refusal → List ℕ → ℕ
 takenBy none ws = length ws
 takenBy (some r) ws = 0
 
 module _ (n k : ℕ) (f g : ℕ → ℕ → ℕ) where
   abbrev pub called : List (List ℕ) → ℕ → Stand → Outcome
-  called S j x = call [] n k (f (incoming n S j)) (g (incoming n S j - 1)) (x .state) (callAt S j) (x .memory)
+  called S j x = call [] n k (f (incoming n S j)) (g (outgoing n S j)) (x .state) (callAt S j) (x .memory)
 
   unfoldable pub standing : Stand → List (List ℕ) → ℕ → Stand
   standing x S zero = x

@@ -1,5 +1,4 @@
 -- Frames put in order.
---   moved-exists    every frame can be put in order
 --   moved-unique    there is one way to put a frame in order
 --   moved-home      a frame put in order, and then in an order that undoes it, is the frame
 use Prim.Native.Nat.{ℕ, _^_, _<_}
@@ -7,22 +6,8 @@ use mathlib.Core.Path.{_≡_, sym, ap, _∙_}
 use mathlib.Core.List.{List}
 use lib.ListN.{length, getD}
 use lib.Seq.{ext-getD}
-use Rattle.kinds.specs.Frame.{inOrder}
-use Rattle.kinds.proofs.FrameLaws.{in-order-length, in-order-at}
-use Rattle.span.proofs.Counting.{bijection-inverse}
 use Rattle.order.specs.Order.{place, Order, Undoes, Moved}
 use Rattle.order.proofs.OrderLaws.{order-bijection}
-
-pub moved-exists : {n : ℕ} {C : List ℕ} → Order n C → (f : List ℕ) → (l : List ℕ) × Moved n C f l
-moved-exists {n} o f =
-    let (home, _, _, back) = bijection-inverse (order-bijection o) in
-    let there : ℕ → ℕ = λ j. getD f (home j) 0 in (
-      inOrder (2 ^ n) there,
-      record {
-        whole = in-order-length (2 ^ n) there;
-        each = λ i l. in-order-at (2 ^ n) there 0 _ (order-bijection o .into i l) ∙ ap (λ (j : ℕ). getD f j 0) (back i l);
-      },
-    )
 
 pub moved-unique : {n : ℕ} {C f g h : List ℕ} → Order n C → Moved n C f g → Moved n C f h → g ≡ h
 moved-unique {g} {h} o a b =

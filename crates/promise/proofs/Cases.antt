@@ -16,7 +16,7 @@ use Rattle.span.specs.Maps.{bijection?}
 use Rattle.order.specs.Order.{place}
 use Rattle.sheet.specs.Sheet.{stagesIn}
 use Rattle.sheet.proofs.Cases.{reversal}
-use Rattle.maps.specs.Cells.{afterStages}
+use Rattle.maps.specs.Cells.{afterStages, M, N}
 use Rattle.run.specs.Memory.{put}
 use Rattle.promise.specs.Series.{wordIn, dueCall, duePort, Stand, standing, outcomeOn}
 use Rattle.promise.specs.Passes.{passTable}
@@ -48,6 +48,10 @@ identity = side 0 1 1 no-stage ++ side 0 1 1 no-stage
 
 abbrev turning : List ℕ
 turning = side 1 1 1 no-stage ++ side 0 1 1 one-stage
+
+-- a sheet with both maps singular
+abbrev singular : List ℕ
+singular = side 0 0 1 no-stage ++ side 0 0 1 no-stage
 
 -- at n 2, k 2: the one for the columns 2 1
 abbrev one-tick : List ℕ
@@ -99,6 +103,13 @@ faults : map (λ s. told 3 1 s (fresh 16 4) one-frame) (reversal ∷ set reversa
     ∷ [])
 unfolding computed
 faults = refl
+
+-- there M = N P for the identity, and still words are lost: 8, and the second call finds its cells filled
+lost : (map (M edition1 2 1 singular) (0 ∷ 1 ∷ 2 ∷ 3 ∷ []) ≡ map (N edition1 2 1 singular) (0 ∷ 1 ∷ 2 ∷ 3 ∷ []))
+    × (verdict (2, 1, 1 ∷ 2 ∷ [], singular) ≡ 8)
+    × (told 2 1 singular (fresh 8 2) ((0 ∷ 1 ∷ []) ∷ (2 ∷ 3 ∷ []) ∷ []) ≡ (0, []) ∷ (12, []) ∷ [])
+unfolding computed
+lost = (refl, refl, refl)
 
 -- each word of one frame, completed in call 1, and the word that leaves when and where it is due under Gray code
 abbrev judged : List ℕ → List (List ℕ) → List (ℕ × ℕ)

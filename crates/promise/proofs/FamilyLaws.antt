@@ -22,7 +22,7 @@ use Rattle.run.specs.States.{next}
 use Rattle.run.specs.Call.{Outcome, accessOf, carriedOut}
 use Rattle.run.specs.declared.State.{State}
 use Rattle.run.proofs.CallLaws.{call-done}
-use Rattle.promise.specs.Series.{callAt, Series, wordIn, CompletedIn, TickDue, dueCall, duePort, Stand, Fresh, incoming, outgoing, standing, outcomeOf, Leaves, RightOver}
+use Rattle.promise.specs.Series.{callAt, Series, wordIn, CompletedIn, TickDue, dueCall, duePort, Stand, Fresh, incoming, outgoing, standing, outcomeOf, called, Leaves, RightOver}
 use Rattle.promise.specs.Passes.{Fits}
 use Rattle.promise.proofs.SeriesLaws.{call-count, before-none, word-comes}
 use Rattle.promise.proofs.StateLaws.{Counted, Stays, Turns, counted-call}
@@ -32,7 +32,7 @@ use Rattle.promise.proofs.HalfLaws.{Held, Brings, held-fresh, held-soun
 module _ {n k : ℕ} (within : k ≤ n) {P f g : ℕ → ℕ → ℕ} (fits : (F : ℕ) → Fits n k (P F) (f F) (g F))
     (x : Stand) (fresh : Fresh n k x) (S : List (List ℕ)) (series : Series k S) where
   abbrev at : ℕ → Stand
-  at = standing n k f g x S
+  at = standing (called n k f g S) x
 
   abbrev comes-in : ℕ → ℕ
   comes-in = incoming n S
@@ -40,7 +40,7 @@ module _ {n k : ℕ} (within : k ≤ n) {P f g : ℕ → ℕ → ℕ} (fits : (F
   abbrev goes-out : ℕ → ℕ
   goes-out = outgoing n S
 
-  at-next : (j : ℕ) → at (suc j) ≡ record { state = outcomeOf n k f g x S j .state; memory = outcomeOf n k f g x S j .memory }
+  at-next : (j : ℕ) → at (suc j) ≡ record { state = outcomeOf (called n k f g S) x j .state; memory = outcomeOf (called n k f g S) x j .memory }
   unfolding standing
   at-next j = refl
 
@@ -69,10 +69,10 @@ module _ {n k : ℕ} (within : k ≤ n) {P f g : ℕ → ℕ → ℕ} (fits : (F
     abbrev ws : List ℕ
     ws = callAt S j
 
-    fine : outcomeOf n k f g x S j .refusal ≡ none
+    fine : outcomeOf (called n k f g S) x j .refusal ≡ none
     fine = held-sound within (fits F) (fits G) (now .held) ws
 
-    done : outcomeOf n k f g x S j ≡ carriedOut n k (f F) (g G) st ws m
+    done : outcomeOf (called n k f g S) x j ≡ carriedOut n k (f F) (g G) st ws m
     done = call-done [] n k (f F) (g G) st ws m fine
 
     -- the words that come are the incoming frame's
@@ -108,7 +108,7 @@ module _ {n k : ℕ} (within : k ≤ n) {P f g : ℕ → ℕ → ℕ} (fits : (F
             back = omega arith
 
     -- a word of the frame that is read leaves when its place's tick is read
-    word-leaves : (i : ℕ) → i < 2 ^ n → st .r < ticks n k → tickOf k (P G i) ≡ st .r → Leaves (outcomeOf n k f g x S j) (portOf k (P G i)) (wordIn n S G i)
+    word-leaves : (i : ℕ) → i < 2 ^ n → st .r < ticks n k → tickOf k (P G i) ≡ st .r → Leaves (outcomeOf (called n k f g S) x j) (portOf k (P G i)) (wordIn n S G i)
     word-leaves i l busy e = rw done (record { handed = lt-ltb (st .r) (ticks n k) busy; word = held-word within (fits F) (fits G) (now .held) i l e })
 
   running-first : Running 0 (comes-in 0) (goes-out 0) x
@@ -123,7 +123,7 @@ module _ {n k : ℕ} (within : k ≤ n) {P f g : ℕ → ℕ → ℕ} (fits : (F
   running zero reach = rw at-first running-first
   running (suc j) reach = running-more j reach (running j (omega arith))
 
-  pub never-refused : (j : ℕ) → j < length S → outcomeOf n k f g x S j .refusal ≡ none
+  pub never-refused : (j : ℕ) → j < length S → outcomeOf (called n k f g S) x j .refusal ≡ none
   never-refused j reach = fine j reach (running j (omega arith))
 
   goes : (j : ℕ) → j < length S → at (suc j) .state ≡ next (ticks n k) (at j .state) (callAt S j)
@@ -133,19 +133,19 @@ module _ {n k : ℕ} (within : k ≤ n) {P f g : ℕ → ℕ → ℕ} (fits : (F
   counted-at j reach = running j reach .counted
 
   leaves : (F T i : ℕ) → CompletedIn n S F T → i < 2 ^ n → dueCall k (P F) T i < length S
-      → Leaves (outcomeOf n k f g x S (dueCall k (P F) T i)) (duePort k (P F) i) (wordIn n S F i)
+      → Leaves (outcomeOf (called n k f g S) x (dueCall k (P F) T i)) (duePort k (P F) i) (wordIn n S F i)
   leaves F T i completed l reach =
       let j : ℕ = dueCall k (P F) T i in
       let tick : tickOf k (P F i) < ticks n k = tick-lt within (fits F .places .into i l) in
       let (r, frame) = reads-in-turn within S series (λ j. at j .state) counted-at goes completed (tickOf k (P F i)) j tick refl (omega arith) in
       let read : goes-out j ≡ F = omega (arith, frame) in
-      subst (λ (G : ℕ). Leaves (outcomeOf n k f g x S j) (portOf k (P G i)) (wordIn n S G i)) read
+      subst (λ (G : ℕ). Leaves (outcomeOf (called n k f g S) x j) (portOf k (P G i)) (wordIn n S G i)) read
       (word-leaves j reach (running j (omega arith)) i l (omega (arith, r, tick)) (ap (λ (G : ℕ). tickOf k (P G i)) read ∙ sym r))
 
-  pub family-right : RightOver n k P (outcomeOf n k f g x S) S
+  pub family-right : RightOver n k P (outcomeOf (called n k f g S) x) S
   family-right = record { no-fault = λ j reach (low, high). omega (arith, ap given (never-refused j reach), low); leaves = λ F T i completed l. leaves F T i completed (omega arith) }
 
-  pub family-hands : (j : ℕ) → j < length S → Says (outcomeOf n k f g x S j .handed) (TickDue n k S j)
+  pub family-hands : (j : ℕ) → j < length S → Says (outcomeOf (called n k f g S) x j .handed) (TickDue n k S j)
   family-hands j reach = rw (done j reach (running j (omega arith))) (to, from)
     where
       to : ltb (at j .state .r) (ticks n k) ≡ true → TickDue n k S j

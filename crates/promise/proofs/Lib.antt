@@ -11,5 +11,5 @@ pub mod PassLaws
 pub mod RightLaws
 pub mod BoundLaws
 pub mod ExactLaws
-pub mod ConserveLaws
+pub mod ToolLaws
 pub mod Cases

@@ -31,7 +31,7 @@ use Rattle.run.proofs.MemoryLaws.{words-at, put-length}
 use Rattle.run.proofs.CountLaws.{put-other, Different, put-in, apart}
 use Rattle.run.proofs.PlaceLaws.{places-at, places-length, places-below}
 use Rattle.run.proofs.CallLaws.{call-given, call-done}
-use Rattle.promise.specs.Series.{callAt, Series, dueCall, Stand, Fresh, standing, outcomeOf, RightOver}
+use Rattle.promise.specs.Series.{callAt, Series, dueCall, Stand, Fresh, standing, outcomeOf, called, RightOver}
 use Rattle.promise.specs.Passes.{BanksApart, Fits}
 use Rattle.promise.proofs.RefusalLaws.{no-fault-none}
 use Rattle.promise.proofs.OneFrame.{one-frame, one-frame-length, came, came-at, some-came, blank-call, completed, word-in, one-frame-series}
@@ -124,7 +124,7 @@ is-fresh n k = record {
     all-zero : AllZero (zeros n)
     all-zero j h = getD-replicate (2 ^ (n + 1)) j 0 0 (rw (zeros-length n) at h)
 
-module _ (n k : ℕ) (P f g u : ℕ → ℕ) (right : RightOver n k (λ F. P) (outcomeOf n k (λ F. f) (λ F. g) (fresh n k) (one-frame n k u)) (one-frame n k u)) where
+module _ (n k : ℕ) (P f g u : ℕ → ℕ) (right : RightOver n k (λ F. P) (outcomeOf (called n k (λ F. f) (λ F. g) (one-frame n k u)) (fresh n k)) (one-frame n k u)) where
   abbrev T : ℕ
   T = ticks n k
 
@@ -132,10 +132,10 @@ module _ (n k : ℕ) (P f g u : ℕ → ℕ) (right : RightOver n k (λ F. P) (o
   S = one-frame n k u
 
   abbrev before : ℕ → Stand
-  before = standing n k (λ F. f) (λ F. g) (fresh n k) S
+  before = standing (called n k (λ F. f) (λ F. g) S) (fresh n k)
 
   abbrev outcome : ℕ → Outcome
-  outcome = outcomeOf n k (λ F. f) (λ F. g) (fresh n k) S
+  outcome = outcomeOf (called n k (λ F. f) (λ F. g) S) (fresh n k)
 
   module _ (j : ℕ) (h : j < 2 * T) where
     none-given : outcome j .refusal ≡ none
@@ -288,7 +288,7 @@ only-it : (i j : ℕ) → only i j ≡ only i i → i ≡ j
 only-it i j same = stable (ℕ-discrete i j) (λ ne. omega (arith, rw (ne-eqb i j ne, eq-eqb i i refl) at same))
 
 module _ (n k : ℕ) (P f g : ℕ → ℕ) (within : k ≤ n) (into : (i : ℕ) → f i < 2 ^ n) (from : (j : ℕ) → g j < 2 ^ n) (places : Bijection P (2 ^ n)) where
-  pub right-fits : ((x : Stand) (S : List (List ℕ)) → Fresh n k x → Series k S → RightOver n k (λ F. P) (outcomeOf n k (λ F. f) (λ F. g) x S) S) → Fits n k P f g
+  pub right-fits : ((x : Stand) (S : List (List ℕ)) → Fresh n k x → Series k S → RightOver n k (λ F. P) (outcomeOf (called n k (λ F. f) (λ F. g) S) x) S) → Fits n k P f g
   right-fits right = record {
     write-cells = into;
     read-cells = from;
@@ -301,5 +301,5 @@ module _ (n k : ℕ) (P f g : ℕ → ℕ) (within : k ≤ n) (into : (i : ℕ) 
         ap f (only-it i j same) ∙ e;
   }
     where
-      over : (i : ℕ) → RightOver n k (λ F. P) (outcomeOf n k (λ F. f) (λ F. g) (fresh n k) (one-frame n k (only i))) (one-frame n k (only i))
+      over : (i : ℕ) → RightOver n k (λ F. P) (outcomeOf (called n k (λ F. f) (λ F. g) (one-frame n k (only i))) (fresh n k)) (one-frame n k (only i))
       over i = right (fresh n k) (one-frame n k (only i)) (is-fresh n k) (one-frame-series n k (only i) (only-small i))

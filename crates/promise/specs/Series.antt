@@ -14,17 +14,19 @@
 -- Where a word is due, if its frame is completed in call T, under an order that sends word i to place P i:
 --   dueCall k P T i          in the call in which its place's tick is due
 --   duePort k P i            at its place's port
--- The run, where f F i is the cell to which word i of frame F is written, and g F j the cell that is read for its place j:
+-- The run, made j y being what comes of call j, made from y:
 --   Stand                    where a run stands between two calls: the state, and the memory
 --   Fresh n k x              "marks zero, nothing coming in, half 0, reader idle". 2^(n+1) words are lent and as many marks; the words may be any
+--   standing made x j        where a run that starts at x stands before call j
+--   outcomeOf made x j       what comes of call j then
+--   takenBy o ws             how many of the words ws a call takes in, where o is the refusal that it gives, if it gives one: then none
+--   wordsTaken made x S j, wordsHanded made x j      "words taken in" and "words handed out, over the successful calls" before call j, where the series S is brought
+-- The calls that can be made of a series S:
 --   incoming n S j           the frame that comes in at call j
 --   outgoing n S j           the frame before it: what is read in call j, if anything is left to read, is of this one
---   called n k f g S j x     what comes of call j, made from x
---   standing n k f g x S j   where a run that starts at x stands before call j
---   outcomeOf n k f g x S j  what comes of call j then
---   wordsTaken n k f g x S j, wordsHanded n k f g x S j      "words taken in" and "words handed out, over the successful calls" before call j
---   takenBy o ws             how many of the words ws a call takes in, where o is the refusal that it gives, if it gives one: then none
---   standingOn e n k s x S j, outcomeOn e n k s x S j        the run of a sheet, which has M and N for every frame
+--   called n k f g S j y     call j, where f F i is the cell to which word i of frame F is written, and g F j the cell that is read for its place j
+--   ticked e n k s S out j y     call j of the run as a tool, with the sheet s; out j is the out buffer that is lent
+--   standingOn e n k s x S j, outcomeOn e n k s x S j     the run of a sheet, which has M and N for every frame
 -- When it is right:
 --   IsFault o                the refusal o, if there is one, is 11, 12, 13 or 14
 --   Leaves o p w             in the call of which o comes a tick is handed out, with the word w at port p
@@ -48,6 +50,7 @@ use Rattle.sheet.specs.Layout.{AllZero}
 use Rattle.maps.specs.Cells.{M, N}
 use Rattle.run.specs.Memory.{Memory}
 use Rattle.run.specs.Call.{Outcome, call}
+use Rattle.run.specs.Tool.{sheetCall}
 use Rattle.run.specs.declared.State.{State}
 
 abbrev pub Words32 : List ℕ → Type 0
@@ -121,31 +124,34 @@ abbrev pub takenBy : Option Refusal → List ℕ → ℕ
 takenBy none ws = length ws
 takenBy (some r) ws = 0
 
-module _ (n k : ℕ) (f g : ℕ → ℕ → ℕ) where
-  abbrev pub called : List (List ℕ) → ℕ → Stand → Outcome
-  called S j x = call [] n k (f (incoming n S j)) (g (outgoing n S j)) (x .state) (callAt S j) (x .memory)
+module _ (made : ℕ → Stand → Outcome) (x : Stand) where
+  unfoldable pub standing : ℕ → Stand
+  standing zero = x
+  standing (suc j) = let o = made j (standing j) in record { state = o .state; memory = o .memory }
 
-  unfoldable pub standing : Stand → List (List ℕ) → ℕ → Stand
-  standing x S zero = x
-  standing x S (suc j) = let o = called S j (standing x S j) in record { state = o .state; memory = o .memory }
+  abbrev pub outcomeOf : ℕ → Outcome
+  outcomeOf j = made j (standing j)
 
-  abbrev pub outcomeOf : Stand → List (List ℕ) → ℕ → Outcome
-  outcomeOf x S j = called S j (standing x S j)
+  unfoldable pub wordsTaken : List (List ℕ) → ℕ → ℕ
+  wordsTaken S zero = 0
+  wordsTaken S (suc j) = wordsTaken S j + takenBy (outcomeOf j .refusal) (callAt S j)
 
-  unfoldable pub wordsTaken : Stand → List (List ℕ) → ℕ → ℕ
-  wordsTaken x S zero = 0
-  wordsTaken x S (suc j) = wordsTaken x S j + takenBy (outcomeOf x S j .refusal) (callAt S j)
+  unfoldable pub wordsHanded : ℕ → ℕ
+  wordsHanded zero = 0
+  wordsHanded (suc j) = wordsHanded j + length (outcomeOf j .leaving)
 
-  unfoldable pub wordsHanded : Stand → List (List ℕ) → ℕ → ℕ
-  wordsHanded x S zero = 0
-  wordsHanded x S (suc j) = wordsHanded x S j + length (outcomeOf x S j .leaving)
+abbrev pub called : ℕ → ℕ → (ℕ → ℕ → ℕ) → (ℕ → ℕ → ℕ) → List (List ℕ) → ℕ → Stand → Outcome
+called n k f g S j y = call [] n k (f (incoming n S j)) (g (outgoing n S j)) (y .state) (callAt S j) (y .memory)
 
-module _ (e : Edition) (n k : ℕ) (s : List ℕ) where
-  abbrev pub standingOn : Stand → List (List ℕ) → ℕ → Stand
-  standingOn = standing n k (λ F. M e n k s) (λ F. N e n k s)
+abbrev pub ticked : Edition → ℕ → ℕ → List ℕ → List (List ℕ) → (ℕ → List ℕ) → ℕ → Stand → Outcome
+ticked e n k s S out j y = sheetCall e n k s (y .state) (callAt S j) (y .memory) (out j)
 
-  abbrev pub outcomeOn : Stand → List (List ℕ) → ℕ → Outcome
-  outcomeOn = outcomeOf n k (λ F. M e n k s) (λ F. N e n k s)
+module _ (e : Edition) (n k : ℕ) (s : List ℕ) (x : Stand) (S : List (List ℕ)) where
+  abbrev pub standingOn : ℕ → Stand
+  standingOn = standing (called n k (λ F. M e n k s) (λ F. N e n k s) S) x
+
+  abbrev pub outcomeOn : ℕ → Outcome
+  outcomeOn = outcomeOf (called n k (λ F. M e n k s) (λ F. N e n k s) S) x
 
 abbrev pub IsFault : Option Refusal → Type 0
 IsFault o = (11 ≤ given o) × (given o ≤ 14)

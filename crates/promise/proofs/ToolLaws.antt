@@ -1,0 +1,143 @@
+-- The run as a tool over a series of calls.
+--   Fair o m ws         what came of a call that brought ws to the memory m: the memory has its places, and the filled marks grew by the words taken in, and shrank by those handed out
+--   call-fair           a refused call is fair, and so is one whose marks are
+--   conserved-by        where every call of a run from zero marks was fair: "words taken in, less words handed out, over the successful calls, equal the filled marks" (01, 'One tick of the run')
+--   tool-conserved      so it is of the tool, whatever the sheet, the series and the buffers
+--   tool-possible       and from a possible state every state met is possible
+--   tool-runs           with a sheet that keeps the layout and a series of calls, the tool's run from fresh is the sheet's: 1, 2, 5 and 10 are never given
+--   tool-outcome        and so is what comes of each call
+--   tool-right          so where the sheet is right for an order, what the tool answers is
+use Prim.Native.Nat.{ℕ, zero, suc, _+_, _^_, _<_, _≤_}
+use mathlib.Core.Path.{_≡_, refl, ap, _∙_}
+use mathlib.Core.Bool.{cond}
+use mathlib.Core.List.{List, [], _∷_}
+use mathlib.Core.Option.{Option, none, some}
+use native.Mathlib.Omega.{arith}
+use lib.ListN.{length}
+use lib.Pow.{pow-pos}
+use Rattle.kinds.specs.Edition.{Edition, Sized, sheetPlaces}
+use Rattle.kinds.specs.Frame.{tickBits, ticks}
+use Rattle.kinds.specs.Lowest.{Reason, lowest}
+use Rattle.kinds.specs.declared.Refusal.{Refusal}
+use Rattle.kinds.proofs.LowestLaws.{lowest-none}
+use Rattle.order.specs.Order.{place}
+use Rattle.sheet.specs.Layout.{AllZero, WellFormed}
+use Rattle.maps.specs.Cells.{M, N}
+use Rattle.run.specs.Memory.{Memory, filledMarks}
+use Rattle.run.specs.States.{Possible}
+use Rattle.run.specs.Call.{Outcome, call}
+use Rattle.run.specs.Tool.{beforeFaults}
+use Rattle.run.specs.declared.State.{State}
+use Rattle.run.proofs.MemoryLaws.{put-length}
+use Rattle.run.proofs.CallLaws.{call-refused, call-done, call-past, call-leaving, sheet-call-possible, sheet-call-filled}
+use Rattle.promise.specs.Series.{callAt, Series, Stand, Fresh, takenBy, standing, outcomeOf, wordsTaken, wordsHanded, called, ticked, standingOn, outcomeOn, RightOver, Right}
+use Rattle.promise.proofs.SeriesLaws.{call-count}
+
+pub record Fair (o : Outcome) (m : Memory) (ws : List ℕ) : Type 0 where
+  pub words : length (o .memory .words) ≡ length (m .words)
+  pub marks : length (o .memory .marks) ≡ length (m .marks)
+  pub filled : filledMarks (m .marks) + takenBy (o .refusal) ws ≡ filledMarks (o .memory .marks) + length (o .leaving)
+
+fair-by : {o u : Outcome} {m : Memory} {ws : List ℕ} → o ≡ u → Fair u m ws → Fair o m ws
+fair-by e fair = rw e fair
+
+module _ (t : List Reason) (n k : ℕ) (f g : ℕ → ℕ) (st : State) (ws : List ℕ) (m : Memory) where
+  abbrev this : Outcome
+  this = call t n k f g st ws m
+
+  pub call-fair : (this .refusal ≡ none → filledMarks (this .memory .marks) + cond (this .handed) (2 ^ k) 0 ≡ filledMarks (m .marks) + length ws) → Fair this m ws
+  call-fair counted = go (this .refusal) refl
+    where
+      go : (o : Option Refusal) → this .refusal ≡ o → Fair this m ws
+      go none ok =
+          let done = call-done t n k f g st ws m ok in
+          record {
+            words = rw done (put-length _ _ _);
+            marks = rw done (put-length _ _ _ ∙ put-length _ _ _);
+            filled = rw ok (omega (arith, counted ok, call-leaving t n k f g st ws m));
+          }
+      go (some x) given = fair-by (call-refused t n k f g st ws m given) (record { words = refl; marks = refl; filled = refl })
+
+zero-marks : (l : List ℕ) → AllZero l → filledMarks l ≡ 0
+unfolding filledMarks
+zero-marks [] zeros = refl
+zero-marks (zero ∷ l) zeros = zero-marks l (λ j h. zeros (suc j) (omega arith))
+zero-marks (suc v ∷ l) zeros = absurd (omega (arith, zeros 0 (omega arith)))
+
+module _ (made : ℕ → Stand → Outcome) (x : Stand) (S : List (List ℕ)) (fair : (j : ℕ) → Fair (outcomeOf made x j) (standing made x j .memory) (callAt S j)) where
+  pub conserved-by : AllZero (x .memory .marks) → (j : ℕ) → wordsTaken made x S j ≡ filledMarks (standing made x j .memory .marks) + wordsHanded made x j
+  unfolding standing wordsTaken wordsHanded
+  conserved-by zeros zero = omega (arith, zero-marks (x .memory .marks) zeros)
+  conserved-by zeros (suc j) = omega (arith, conserved-by zeros j, fair j .filled)
+
+  -- the memory keeps its places
+  lent-by : (j : ℕ) → (length (standing made x j .memory .words) ≡ length (x .memory .words)) × (length (standing made x j .memory .marks) ≡ length (x .memory .marks))
+  unfolding standing
+  lent-by zero = (refl, refl)
+  lent-by (suc j) = (fair j .words ∙ lent-by j .0, fair j .marks ∙ lent-by j .1)
+
+over-same : {n k : ℕ} {P : ℕ → ℕ → ℕ} {o u : ℕ → Outcome} {S : List (List ℕ)} → ((j : ℕ) → j < length S → o j ≡ u j) → RightOver n k P u S → RightOver n k P o S
+over-same same right = record {
+  no-fault = λ j reach. rw (same j reach) (right .no-fault j reach);
+  leaves = λ F T i completed l reach. rw (same _ reach) (right .leaves F T i completed l reach);
+}
+
+module _ (e : Edition) (n k : ℕ) (s : List ℕ) (S : List (List ℕ)) (out : ℕ → List ℕ) (x : Stand) where
+  abbrev tool : ℕ → Stand → Outcome
+  tool = ticked e n k s S out
+
+  abbrev before : ℕ → Stand → List Reason
+  before j y = beforeFaults e n k s (y .state) (callAt S j) (y .memory) (out j)
+
+  tool-fair : (j : ℕ) (y : Stand) → Fair (tool j y) (y .memory) (callAt S j)
+  tool-fair j y =
+      call-fair (before j y) n k (M e n k s) (N e n k s) (y .state) (callAt S j) (y .memory)
+      (λ ok. sheet-call-filled e n k s (y .state) (callAt S j) (y .memory) (out j) ok .0)
+
+  fair-at : (j : ℕ) → Fair (outcomeOf tool x j) (standing tool x j .memory) (callAt S j)
+  fair-at j = tool-fair j (standing tool x j)
+
+  pub tool-conserved : AllZero (x .memory .marks) → (j : ℕ) → wordsTaken tool x S j ≡ filledMarks (standing tool x j .memory .marks) + wordsHanded tool x j
+  tool-conserved = conserved-by tool x S fair-at
+
+  stays-possible : (j : ℕ) (y : Stand) → Possible (ticks n k) (y .state) → (o : Option Refusal) → tool j y .refusal ≡ o → Possible (ticks n k) (tool j y .state)
+  stays-possible j y possible none ok = sheet-call-possible e n k s (y .state) (callAt S j) (y .memory) (out j) ok
+  stays-possible j y possible (some r) given =
+      rw (ap (λ (o : Outcome). o .state) (call-refused (before j y) n k (M e n k s) (N e n k s) (y .state) (callAt S j) (y .memory) given)) possible
+
+  pub tool-possible : Possible (ticks n k) (x .state) → (j : ℕ) → Possible (ticks n k) (standing tool x j .state)
+  unfolding standing
+  tool-possible possible zero = possible
+  tool-possible possible (suc j) = let y = standing tool x j in stays-possible j y (tool-possible possible j) (tool j y .refusal) refl
+
+  module _ (sized : Sized e n k) (whole : length s ≡ sheetPlaces e) (formed : WellFormed e n k s) (room : (j : ℕ) → j < length S → length (out j) ≡ 2 ^ k)
+      (fresh : Fresh n k x) (series : Series k S) where
+    nothing-wrong : (j : ℕ) → j < length S → lowest (before j (standing tool x j)) ≡ none
+    nothing-wrong j h =
+        let y = standing tool x j in
+        let (words, marks) = lent-by tool x S fair-at j in
+        let possible = tool-possible (omega (arith, fresh .nothing-coming, fresh .half, fresh .idle, pow-pos (tickBits n k))) j in
+        lowest-none (before j y) .1 (
+          λ outside. outside sized,
+          (
+            λ wrong. wrong (whole, (call-count (callAt S j) (series j h), (room j h, (words ∙ fresh .words-lent, (marks ∙ fresh .marks-lent, tt))))),
+            (λ broken. broken formed, (λ not. not possible, tt)),
+          ),
+        )
+
+    outcome-by : (j : ℕ) → j < length S → standing tool x j ≡ standingOn e n k s x S j → outcomeOf tool x j ≡ outcomeOn e n k s x S j
+    outcome-by j h same =
+        let y = standing tool x j in
+        call-past (before j y) n k (M e n k s) (N e n k s) (y .state) (callAt S j) (y .memory) (nothing-wrong j h)
+        ∙ ap (called n k (λ F. M e n k s) (λ F. N e n k s) S j) same
+
+    pub tool-runs : (j : ℕ) → j ≤ length S → standing tool x j ≡ standingOn e n k s x S j
+    unfolding standing
+    tool-runs zero h = refl
+    tool-runs (suc j) h = ap (λ (o : Outcome). record { state = o .state; memory = o .memory }) (outcome-by j h (tool-runs j (omega arith)))
+
+    pub tool-outcome : (j : ℕ) → j < length S → outcomeOf tool x j ≡ outcomeOn e n k s x S j
+    tool-outcome j h = outcome-by j h (tool-runs j (omega arith))
+
+    pub tool-right : {C : List ℕ} → Right e n k C s → RightOver n k (λ F. place C) (outcomeOf tool x) S
+    tool-right right = over-same tool-outcome (right .over x S fresh series)

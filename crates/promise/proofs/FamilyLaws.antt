@@ -34,13 +34,16 @@ module _ {n k : ℕ} (within : k ≤ n) {P f g : ℕ → ℕ → ℕ} (fits : (F
   abbrev at : ℕ → Stand
   at = standing (called n k f g S) x
 
+  abbrev comes : ℕ → Outcome
+  comes = outcomeOf (called n k f g S) x
+
   abbrev comes-in : ℕ → ℕ
   comes-in = incoming n S
 
   abbrev goes-out : ℕ → ℕ
   goes-out = outgoing n S
 
-  at-next : (j : ℕ) → at (suc j) ≡ record { state = outcomeOf (called n k f g S) x j .state; memory = outcomeOf (called n k f g S) x j .memory }
+  at-next : (j : ℕ) → at (suc j) ≡ record { state = comes j .state; memory = comes j .memory }
   unfolding standing
   at-next j = refl
 
@@ -69,10 +72,10 @@ module _ {n k : ℕ} (within : k ≤ n) {P f g : ℕ → ℕ → ℕ} (fits : (F
     abbrev ws : List ℕ
     ws = callAt S j
 
-    fine : outcomeOf (called n k f g S) x j .refusal ≡ none
+    fine : comes j .refusal ≡ none
     fine = held-sound within (fits F) (fits G) (now .held) ws
 
-    done : outcomeOf (called n k f g S) x j ≡ carriedOut n k (f F) (g G) st ws m
+    done : comes j ≡ carriedOut n k (f F) (g G) st ws m
     done = call-done [] n k (f F) (g G) st ws m fine
 
     -- the words that come are the incoming frame's
@@ -99,16 +102,16 @@ module _ {n k : ℕ} (within : k ≤ n) {P f g : ℕ → ℕ → ℕ} (fits : (F
           counted = way .1;
           held = held-stays within (fits F) (fits G) (now .held) brings (stays .part);
         })
-        go (inr turns) = rw (turns .frame) (rw back (record {
+        go (inr turns) = rw read (rw (turns .frame) (record {
           counted = way .1;
           held = held-turns within (fits F) (fits G) (now .held) brings (turns .full) (fits (F + 1) .write-cells);
         }))
           where
-            back : F + 1 - 1 ≡ F
-            back = omega arith
+            read : goes-out (suc j) ≡ F
+            read = omega (arith, turns .frame)
 
     -- a word of the frame that is read leaves when its place's tick is read
-    word-leaves : (i : ℕ) → i < 2 ^ n → st .r < ticks n k → tickOf k (P G i) ≡ st .r → Leaves (outcomeOf (called n k f g S) x j) (portOf k (P G i)) (wordIn n S G i)
+    word-leaves : (i : ℕ) → i < 2 ^ n → st .r < ticks n k → tickOf k (P G i) ≡ st .r → Leaves (comes j) (portOf k (P G i)) (wordIn n S G i)
     word-leaves i l busy e = rw done (record { handed = lt-ltb (st .r) (ticks n k) busy; word = held-word within (fits F) (fits G) (now .held) i l e })
 
   running-first : Running 0 (comes-in 0) (goes-out 0) x
@@ -133,13 +136,13 @@ module _ {n k : ℕ} (within : k ≤ n) {P f g : ℕ → ℕ → ℕ} (fits : (F
   counted-at j reach = running j reach .counted
 
   leaves : (F T i : ℕ) → CompletedIn n S F T → i < 2 ^ n → dueCall k (P F) T i < length S
-      → Leaves (outcomeOf (called n k f g S) x (dueCall k (P F) T i)) (duePort k (P F) i) (wordIn n S F i)
+      → Leaves (comes (dueCall k (P F) T i)) (duePort k (P F) i) (wordIn n S F i)
   leaves F T i completed l reach =
       let j : ℕ = dueCall k (P F) T i in
       let tick : tickOf k (P F i) < ticks n k = tick-lt within (fits F .places .into i l) in
       let (r, frame) = reads-in-turn within S series (λ j. at j .state) counted-at goes completed (tickOf k (P F i)) j tick refl (omega arith) in
       let read : goes-out j ≡ F = omega (arith, frame) in
-      subst (λ (G : ℕ). Leaves (outcomeOf (called n k f g S) x j) (portOf k (P G i)) (wordIn n S G i)) read
+      subst (λ (G : ℕ). Leaves (comes j) (portOf k (P G i)) (wordIn n S G i)) read
       (word-leaves j reach (running j (omega arith)) i l (omega (arith, r, tick)) (ap (λ (G : ℕ). tickOf k (P G i)) read ∙ sym r))
 
   pub family-right : RightOver n k P (outcomeOf (called n k f g S) x) S

@@ -1,26 +1,30 @@
 -- The ticks of a frame, and values in order.
 --   frame-whole         2^t ticks of 2^k words are a frame
 --   tick-lt             a word of a frame comes on one of its 2^t ticks
+--   port-lt             a word comes at one of 2^k ports
 --   word-lt             a tick and a port of a frame make a word of it
 --   in-order-length     there are m of them
 --   in-order-at         the value at a place below m is that of the place
---   in-order-is         a list of m numbers that has these values is this one
+--   in-order-is         a list of m values that are these is this one
 use Prim.Native.Nat.{ℕ, zero, suc, _*_, _^_, _<_, _≤_}
 use mathlib.Core.Path.{_≡_, refl, sym, ap, _∙_}
 use mathlib.Core.List.{List}
-use native.Mathlib.Nat.{div-lt-iff-lt-mul}
+use native.Mathlib.Nat.{div-lt-iff-lt-mul, mod-lt}
 use native.Mathlib.Omega.{arith}
 use lib.Arith.{digits-lt}
 use lib.ListN.{length, getD}
 use lib.Pow.{pow-pos, pow-add}
 use lib.Seq.{ext-getD}
-use Rattle.kinds.specs.Frame.{tickBits, ticks, tickOf, wordAt, inOrder}
+use Rattle.kinds.specs.Frame.{tickBits, ticks, tickOf, portOf, wordAt, inOrder}
 
 pub frame-whole : {n k : ℕ} → k ≤ n → ticks n k * 2 ^ k ≡ 2 ^ n
 frame-whole {n} {k} within = sym (pow-add 2 (tickBits n k) k) ∙ ap (λ (i : ℕ). 2 ^ i) (omega arith)
 
 pub tick-lt : {n k i : ℕ} → k ≤ n → i < 2 ^ n → tickOf k i < ticks n k
 tick-lt {k = k} within h = div-lt-iff-lt-mul (pow-pos k) .1 (rw (frame-whole within) h)
+
+pub port-lt : (k i : ℕ) → portOf k i < 2 ^ k
+port-lt k i = mod-lt i (pow-pos k)
 
 pub word-lt : {n k c p : ℕ} → k ≤ n → c < ticks n k → p < 2 ^ k → wordAt k c p < 2 ^ n
 word-lt within tick port = rw (← frame-whole within) (digits-lt tick port)

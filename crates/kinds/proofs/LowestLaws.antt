@@ -8,6 +8,7 @@
 --   lowest-after    where a table and another after it give nothing, that other gives nothing
 --   lowest-none     nothing is given exactly when no reason applies
 --   lowest-first    what is given is the first that applies, and nothing else
+--   lowest-has      what every refusal of a table has, the one that is given has
 --   lowest-law      of a table with ascending numbers, what is given is the lowest that applies, and nothing else
 use Prim.Native.Nat.{ℕ, _<_, _≤_}
 use mathlib.Core.Path.{_≡_, refl, sym, ap, _∙_}
@@ -87,6 +88,13 @@ first-given (r ∷ rs) x (inr f) = lowest-skip r rs (f .0) ∙ first-given rs x 
 
 pub lowest-first : (t : List Reason) (x : Refusal) → lowest t ≡ some x ↔ FirstThatApplies t x
 lowest-first t x = (given-first t x, first-given t x)
+
+first-has : (Q : Refusal → Type 0) (t : List Reason) {x : Refusal} → EachReason (λ r. Q (r .refusal)) t → FirstThatApplies t x → Q x
+first-has Q (r ∷ rs) each (inl f) = rw (f .1) at (each .0)
+first-has Q (r ∷ rs) each (inr f) = first-has Q rs (each .1) (f .1)
+
+pub lowest-has : (Q : Refusal → Type 0) (t : List Reason) {x : Refusal} → EachReason (λ r. Q (r .refusal)) t → lowest t ≡ some x → Q x
+lowest-has Q t {x} each e = first-has Q t each (given-first t x e)
 
 -- where the numbers ascend, the first is the lowest
 

@@ -1,4 +1,5 @@
 -- Frames put in order.
+--   moved-exists    every frame can be put in order
 --   moved-unique    there is one way to put a frame in order
 --   moved-home      a frame put in order, and then in an order that undoes it, is the frame
 use Prim.Native.Nat.{ℕ, _^_, _<_}
@@ -6,8 +7,22 @@ use mathlib.Core.Path.{_≡_, sym, ap, _∙_}
 use mathlib.Core.List.{List}
 use lib.ListN.{length, getD}
 use lib.Seq.{ext-getD}
+use Rattle.kinds.specs.Frame.{inOrder}
+use Rattle.kinds.proofs.FrameLaws.{in-order-length, in-order-at}
+use Rattle.span.proofs.Counting.{bijection-inverse}
 use Rattle.order.specs.Order.{place, Order, Undoes, Moved}
 use Rattle.order.proofs.OrderLaws.{order-bijection}
+
+pub moved-exists : {n : ℕ} {C : List ℕ} → Order n C → (f : List ℕ) → (g : List ℕ) × Moved n C f g
+moved-exists {n} {C} o f =
+    let b = order-bijection o in
+    let (from, _, _, home) = bijection-inverse b in (
+      inOrder (2 ^ n) (λ y. getD f (from y) 0),
+      record {
+        whole = in-order-length (2 ^ n) _;
+        each = λ i h. in-order-at (2 ^ n) _ 0 (place C i) (b .into i h) ∙ ap (λ (x : ℕ). getD f x 0) (home i h);
+      },
+    )
 
 pub moved-unique : {n : ℕ} {C f g h : List ℕ} → Order n C → Moved n C f g → Moved n C f h → g ≡ h
 moved-unique {g} {h} o a b =

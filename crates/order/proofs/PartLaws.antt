@@ -6,11 +6,11 @@
 use Prim.Native.Nat.{ℕ, _+_, _^_, _<_, _≤_}
 use mathlib.Core.Path.{_≡_, sym, ap, ap₂, _∙_}
 use mathlib.Core.List.{List}
-use native.Mathlib.Nat.{mod-lt}
 use native.Mathlib.Omega.{arith}
 use lib.Bits.{bitXor, xor-zero-r, xor-block, xor-shr, xor-mod}
 use lib.ListN.{getD}
 use lib.Pow.{pow-pos, pow-lt, shr-lt, split}
+use Rattle.kinds.proofs.FrameLaws.{port-lt}
 use Rattle.kinds.specs.Frame.{tickBits, tickOf, portOf, wordAt}
 use Rattle.bits.specs.Image.{Linear, columns}
 use Rattle.bits.specs.Parity.{bit, dot}
@@ -32,7 +32,7 @@ at-port k p = omega arith
 by-tick-and-port : (k a b : ℕ) → bitXor a b ≡ wordAt k (bitXor (tickOf k a) (tickOf k b)) (bitXor (portOf k a) (portOf k b))
 by-tick-and-port k a b =
     sym (ap₂ bitXor (split a k) (split b k))
-    ∙ xor-block k (tickOf k a) (tickOf k b) (portOf k a) (portOf k b) (mod-lt a (pow-pos k)) (mod-lt b (pow-pos k))
+    ∙ xor-block k (tickOf k a) (tickOf k b) (portOf k a) (portOf k b) (port-lt k a) (port-lt k b)
 
 module _ (k : ℕ) (C : List ℕ) where
   abbrev of-port : ℕ → ℕ
@@ -69,10 +69,10 @@ module _ (k : ℕ) (C : List ℕ) where
   P4-linear = tick-linear k of-tick of-tick-linear
 
   pub P1-into : (a : ℕ) → Into (P1 k C) a (2 ^ k)
-  P1-into a p h = mod-lt (of-port p) (pow-pos k)
+  P1-into a p h = port-lt k (of-port p)
 
   pub P2-into : (a : ℕ) → Into (P2 k C) a (2 ^ k)
-  P2-into a c h = mod-lt (of-tick c) (pow-pos k)
+  P2-into a c h = port-lt k (of-tick c)
 
   module _ {n : ℕ} (o : Order n C) (within : k ≤ n) where
     early : (x : ℕ) → tickOf k (place C x) < 2 ^ tickBits n k

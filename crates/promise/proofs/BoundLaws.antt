@@ -5,46 +5,26 @@ use mathlib.Core.Path.{_≡_, sym, ap, _∙_}
 use mathlib.Core.List.{List}
 use native.Mathlib.Omega.{arith}
 use lib.Bits.{bitXor}
-use lib.ListN.{length, length-map}
+use lib.ListN.{length}
 use lib.Pow.{pow-lt, pow-mono}
 use Rattle.kinds.specs.Edition.{Edition}
 use Rattle.kinds.specs.Frame.{wordAt, bankOf}
-use Rattle.bits.specs.Image.{image, Linear, columns}
-use Rattle.bits.proofs.ImageLaws.{image-xor, linear-image, columns-length, columns-at, columns-below}
-use Rattle.span.specs.Maps.{Bijection}
+use Rattle.bits.specs.Image.{image, columns}
+use Rattle.bits.proofs.ImageLaws.{image-xor, columns-below}
 use Rattle.span.specs.Scan.{rank}
-use Rattle.span.specs.Rows.{dots}
-use Rattle.span.proofs.Counting.{bijection-same}
-use Rattle.span.proofs.SumLaws.{sum-image, sum-member, bijection-independent}
-use Rattle.span.proofs.RankLaws.{rank-le-length, rank-le, independent-rank, columns-sum, rank-xor, rank-after-inner}
+use Rattle.span.proofs.RankLaws.{bijection-rank, rank-same, rank-xor, rank-after-inner}
 use Rattle.span.proofs.RowRankLaws.{rank-rows}
 use Rattle.order.specs.Order.{place, Order}
 use Rattle.order.specs.Parts.{P1, P3, rowsP1}
 use Rattle.order.proofs.PartLaws.{P1-into}
-use Rattle.sheet.specs.Sheet.{Stage, Side, writeSide, readSide}
+use Rattle.sheet.specs.Sheet.{Side, writeSide, readSide}
 use Rattle.sheet.specs.Layout.{InRange, WellFormed}
 use Rattle.maps.specs.Cells.{cellOf}
-use Rattle.maps.specs.Stages.{directions, controls, selected}
+use Rattle.maps.specs.Stages.{selected}
+use Rattle.maps.proofs.StageLaws.{stages-rank}
 use Rattle.maps.proofs.CellLaws.{bank-parts, bank-of-cell, wiring-part}
 use Rattle.promise.specs.Passes.{Invertible, Passes}
 use Rattle.promise.proofs.PassLaws.{apart-wired, passes-fits}
-
-bijection-rank : (k : ℕ) (f : ℕ → ℕ) → Linear f → Bijection f (2 ^ k) → rank (columns k f) ≡ k
-bijection-rank k f linear b =
-    independent-rank (columns k f)
-    (bijection-independent k (columns k f) (columns-length k f) (bijection-same (λ i h. sym (linear-image k f linear i h)) b))
-    ∙ columns-length k f
-
-same-rank : (k : ℕ) (f g : ℕ → ℕ) → ((p : ℕ) → p < 2 ^ k → f p ≡ g p) → rank (columns k f) ≤ rank (columns k g)
-same-rank k f g same =
-    rank-le (columns k f) (columns k g)
-    (columns-sum k f (λ j h. rw (same (2 ^ j) (pow-lt h) ∙ sym (columns-at k g j h)) (sum-member (columns k g) j)))
-
-stages-rank : (k : ℕ) (ss : List Stage) (f : ℕ → ℕ) → rank (columns k (λ p. selected ss (f p))) ≤ length ss
-stages-rank k ss f =
-    rw (← length-map ss (λ s. s .direction))
-    (rank-le-length (columns k (λ p. selected ss (f p))) (directions ss)
-    (columns-sum k (λ p. selected ss (f p)) (λ j h. sum-image (directions ss) (dots (controls ss) (f (2 ^ j))))))
 
 module _ (n k : ℕ) (W R : Side) (C : List ℕ) (within : k ≤ n) (write : InRange n k W) (read : InRange n k R)
     (places : (i : ℕ) → i < 2 ^ n → cellOf k W i ≡ cellOf k R (place C i)) where
@@ -67,7 +47,7 @@ module _ (n k : ℕ) (W R : Side) (C : List ℕ) (within : k ≤ n) (write : InR
       omega (
         arith,
         bijection-rank k (image (W .wiring)) (image-xor (W .wiring)) wired,
-        same-rank k (image (W .wiring)) (λ p. bitXor (stages p) (wires p)) port-part,
+        rank-same k (image (W .wiring)) (λ p. bitXor (stages p) (wires p)) port-part,
         rank-xor k stages wires,
         stages-rank k (R .stages) (P3 k C),
         rank-after-inner k (P1 k C) (image (R .wiring)) (image-xor (R .wiring)),

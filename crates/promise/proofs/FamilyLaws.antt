@@ -2,7 +2,7 @@
 --   never-refused    no call is refused
 --   family-right     the run is right
 --   family-hands     and a tick is handed out exactly in the calls in which one is due
-use Prim.Native.Nat.{ℕ, zero, suc, _+_, _-_, _^_, _<_, _≤_}
+use Prim.Native.Nat.{ℕ, zero, suc, _+_, _^_, _<_, _≤_}
 use mathlib.Core.Path.{_≡_, refl, sym, ap, subst, _∙_}
 use mathlib.Core.Bool.{true}
 use mathlib.Core.List.{List, [], flatten}
@@ -16,16 +16,16 @@ use lib.ListN.{length, getD}
 use Rattle.kinds.specs.Frame.{ticks, tickOf, portOf}
 use Rattle.kinds.specs.Answers.{Says}
 use Rattle.kinds.specs.Refusal.{given}
-use Rattle.kinds.proofs.FrameLaws.{tick-lt}
+use Rattle.kinds.proofs.FrameLaws.{tick-lt, port-lt}
 use Rattle.run.specs.Memory.{Memory, served}
-use Rattle.run.specs.States.{next}
+use Rattle.run.specs.States.{reading, next}
 use Rattle.run.specs.Call.{Outcome, accessOf, carriedOut}
 use Rattle.run.specs.declared.State.{State}
-use Rattle.run.proofs.CallLaws.{call-done}
+use Rattle.run.proofs.CallLaws.{call-done, call-leaving}
 use Rattle.promise.specs.Series.{callAt, Series, wordIn, CompletedIn, TickDue, dueCall, duePort, Stand, Fresh, incoming, outgoing, standing, outcomeOf, called, Leaves, RightOver}
 use Rattle.promise.specs.Passes.{Fits}
 use Rattle.promise.proofs.SeriesLaws.{call-count, before-none, word-comes}
-use Rattle.promise.proofs.StateLaws.{Counted, Stays, Turns, counted-call}
+use Rattle.promise.proofs.CountedLaws.{Counted, Stays, Turns, counted-call}
 use Rattle.promise.proofs.TurnLaws.{reads-in-turn, reads-only}
 use Rattle.promise.proofs.HalfLaws.{Held, Brings, held-fresh, held-sound, held-word, held-stays, held-turns}
 
@@ -112,7 +112,10 @@ module _ {n k : ℕ} (within : k ≤ n) {P f g : ℕ → ℕ → ℕ} (fits : (F
 
     -- a word of the frame that is read leaves when its place's tick is read
     word-leaves : (i : ℕ) → i < 2 ^ n → st .r < ticks n k → tickOf k (P G i) ≡ st .r → Leaves (comes j) (portOf k (P G i)) (wordIn n S G i)
-    word-leaves i l busy e = rw done (record { handed = lt-ltb (st .r) (ticks n k) busy; word = held-word within (fits F) (fits G) (now .held) i l e })
+    word-leaves i l busy e =
+        let reads : reading (ticks n k) st ≡ true = lt-ltb (st .r) (ticks n k) busy in
+        let all : length (comes j .leaving) ≡ 2 ^ k = call-leaving [] n k (f F) (g G) st ws m ∙ rw (done, reads) in
+        record { handed = rw done reads; port = rw all (port-lt k (P G i)); word = rw done (held-word within (fits F) (fits G) (now .held) i l e) }
 
   running-first : Running 0 (comes-in 0) (goes-out 0) x
   running-first =

@@ -1,4 +1,4 @@
--- The two halves of the memory over one call, for any two maps: the step of "a sheet that passes runs right".
+-- The two halves of the memory over one call, for any two maps.
 --   Cell m x Here w              cell x of the memory is filled, with the word w, exactly if Here
 --   Half n m h f Here w          what half h holds, where f i is the cell of word i: the words w i for which Here i, and nothing else
 --   Halves n k st m f w Q d v    what the halves hold in the state st. Of the frame that comes in: f its write map, w its words. Of the frame that is read: Q its order, d its write map, v its words
@@ -8,20 +8,19 @@
 --   held-sound                   a call made there is not refused
 --   held-word                    each word of the tick that is read is handed out at its place's port
 --   held-stays                   after a call that does not complete the frame the run stands so for the same two frames
---   held-turns                   after one that does, it does for that frame, now to be read, and any next one
+--   held-turns                   after one that does, it stands so for that frame, now the one that is read, and any next one
 use Prim.Native.Nat.{ℕ, _+_, _-_, _^_, _<_, _≤_}
 use mathlib.Core.Path.{_≡_, refl, sym, ap, _∙_}
 use mathlib.Core.List.{List, [], _∷_}
 use mathlib.Core.Logic.{_≢_, _↔_}
 use mathlib.Core.Option.{none}
 use native.Mathlib.Decide.{ℕ-discrete, decLt}
-use native.Mathlib.Nat.{mod-lt}
 use native.Mathlib.Omega.{arith}
 use borrow.Author.Tests.{lt-ltb, le-ltb, eq-eqb, ne-eqb}
 use lib.ListN.{length, getD, replicate, length-replicate, getD-replicate, List·getD-eq-default}
-use lib.Pow.{pow-pos, split, high}
-use Rattle.kinds.specs.Frame.{tickBits, ticks, tickOf, portOf, wordAt, bankOf}
-use Rattle.kinds.proofs.FrameLaws.{tick-lt, word-lt}
+use lib.Pow.{split, high}
+use Rattle.kinds.specs.Frame.{ticks, tickOf, portOf, wordAt}
+use Rattle.kinds.proofs.FrameLaws.{tick-lt, port-lt, word-lt}
 use Rattle.kinds.proofs.LowestLaws.{lowest-none}
 use Rattle.span.specs.Maps.{Injective, Bijection}
 use Rattle.span.proofs.Counting.{injective-onto}
@@ -32,19 +31,20 @@ use Rattle.run.specs.Call.{placeIn, placesOf, readsOf, writesOf, accessOf, call
 use Rattle.run.specs.Tool.{rightTick}
 use Rattle.run.specs.declared.State.{State}
 use Rattle.run.proofs.MemoryLaws.{words-at, put-nil, put-length}
-use Rattle.run.proofs.PlaceLaws.{half-bank, halves-apart, places-at, places-length, places-below}
+use Rattle.run.proofs.PlaceLaws.{places-clash, halves-apart, places-at, places-length, places-below}
 use Rattle.run.proofs.CountLaws.{put-other, Different, put-in}
-use Rattle.run.proofs.CallLaws.{next-possible, call-given}
+use Rattle.run.proofs.StateLaws.{next-possible}
+use Rattle.run.proofs.CallLaws.{call-given}
 use Rattle.promise.specs.Passes.{BanksApart, Fits}
 use Rattle.promise.specs.Series.{Stand, Fresh}
-use Rattle.promise.proofs.StateLaws.{Completes}
+use Rattle.promise.proofs.CountedLaws.{fresh-possible, Completes}
 
 pub record Cell (m : Memory) (x : ℕ) (Here : Type 0) (w : ℕ) : Type 0 where
   pub filled : Here → Filled (m .marks) x
   pub word : Here → getD (m .words) x 0 ≡ w
   pub empty : ¬ Here → getD (m .marks) x 0 ≡ 0
 
-abbrev pub Half : ℕ → Memory → ℕ → (ℕ → ℕ) → (ℕ → Type 0) → (ℕ → ℕ) → Type 0
+abbrev Half : ℕ → Memory → ℕ → (ℕ → ℕ) → (ℕ → Type 0) → (ℕ → ℕ) → Type 0
 Half n m h f Here w = (i : ℕ) → i < 2 ^ n → Cell m (placeIn n h (f i)) (Here i) (w i)
 
 pub record Halves (n k : ℕ) (st : State) (m : Memory) (f w Q d v : ℕ → ℕ) : Type 0 where
@@ -94,11 +94,8 @@ module _ {n k : ℕ} {P f g : ℕ → ℕ} (fits : Fits n k P f g) where
         cc (fits .own-cells x y b c (cc (fits .in-order x b, fits .in-order y c)));
   }
 
-port-below : (k j : ℕ) → portOf k j < 2 ^ k
-port-below k j = mod-lt j (pow-pos k)
-
 place-of : (n k : ℕ) (f : ℕ → ℕ) (h j : ℕ) → getD (placesOf n k f h (tickOf k j)) (portOf k j) 0 ≡ placeIn n h (f j)
-place-of n k f h j = places-at n k f h (tickOf k j) (portOf k j) (port-below k j) ∙ ap (λ (i : ℕ). placeIn n h (f i)) (split j k)
+place-of n k f h j = places-at n k f h (tickOf k j) (portOf k j) (port-lt k j) ∙ ap (λ (i : ℕ). placeIn n h (f i)) (split j k)
 
 -- the state after the read, and after the write
 module _ {T : ℕ} {st : State} (ok : Possible T st) where
@@ -119,12 +116,7 @@ module _ {T : ℕ} {st : State} (ok : Possible T st) where
 
 module _ {n k : ℕ} (within : k ≤ n) where
   no-clash : (f : ℕ → ℕ) → BanksApart n k f → (h : ℕ) {c : ℕ} → c < ticks n k → ¬ Clash k (placesOf n k f h c)
-  no-clash f banks h {c} tick (p, _, (q, r, (b, same))) =
-      let last : q < 2 ^ k = rw (places-length n k f h c) at r in
-      banks c p q tick b last (sym (bank-at p (omega arith)) ∙ same ∙ bank-at q last)
-    where
-      bank-at : (p : ℕ) → p < 2 ^ k → bankOf k (getD (placesOf n k f h c) p 0) ≡ bankOf k (f (wordAt k c p))
-      bank-at p l = ap (bankOf k) (places-at n k f h c p l) ∙ half-bank within h (f (wordAt k c p))
+  no-clash f banks h {c} tick clash = let (p, q, b, last, same) = places-clash within f h c .0 clash in banks c p q tick b last same
 
   -- what is put in the cells of a tick
   module _ {f : ℕ → ℕ} (own : Own n f) {h c : ℕ} (half : h < 2) (tick : c < ticks n k) where
@@ -149,12 +141,12 @@ module _ {n k : ℕ} (within : k ≤ n) where
         let all = places-length n k f h c in
         rw (← place-of n k f h j, now)
         (put-in (placesOf n k f h c) vs l differ (λ p b. rw lent (places-below n k f (own .into) h c half p b)) (each ∙ sym all) (portOf k j)
-        (omega (arith, port-below k j)))
+        (omega (arith, port-lt k j)))
 
     mark-here : (b : ℕ) (l : List ℕ) → length l ≡ 2 ^ (n + 1) → (j : ℕ) → tickOf k j ≡ c → getD (marked b (placesOf n k f h c) l) (placeIn n h (f j)) 0 ≡ b
     mark-here b l lent j now =
         rw (places-length n k f h c)
-        (put-here (replicate (2 ^ k) b) l (length-replicate (2 ^ k) b) lent j now ∙ getD-replicate (2 ^ k) (portOf k j) b 0 (port-below k j))
+        (put-here (replicate (2 ^ k) b) l (length-replicate (2 ^ k) b) lent j now ∙ getD-replicate (2 ^ k) (portOf k j) b 0 (port-lt k j))
 
   half-emptied : {Q d e v : ℕ → ℕ} → Fits n k Q d e → {h r : ℕ} → h < 2 → r < ticks n k → {m : Memory} → length (m .marks) ≡ 2 ^ (n + 1)
       → Half n m h d (λ i. r ≤ tickOf k (Q i)) v → Half n (emptied (placesOf n k e h r) m) h d (λ i. r + 1 ≤ tickOf k (Q i)) v
@@ -170,7 +162,7 @@ module _ {n k : ℕ} (within : k ≤ n) where
   half-stored {w = w} own {a = a} half tick {m} words marks x ws brings held i l = elim (ℕ-discrete (tickOf k i) a) [
     | yes now ↦ cell-filled (mark-here own half tick 1 (m .marks) marks i now)
         (put-here own half tick (x ∷ ws) (m .words) (brings .count) words i now
-        ∙ brings .words (portOf k i) (omega (arith, brings .count, port-below k i)) ∙ ap w (rw (← now) (split i k))) (omega arith)
+        ∙ brings .words (portOf k i) (omega (arith, brings .count, port-lt k i)) ∙ ap w (rw (← now) (split i k))) (omega arith)
     | no other ↦ cell-same (put-elsewhere own half tick _ (m .marks) l other) (put-elsewhere own half tick (x ∷ ws) (m .words) l other) (λ here. omega arith, λ here. omega arith)
         (held i l)
   ]
@@ -185,7 +177,7 @@ module _ {n k : ℕ} (within : k ≤ n) where
 
   pub held-fresh : {f w Q d v : ℕ → ℕ} → Bijection Q (2 ^ n) → {x : Stand} → Fresh n k x → Held n k (x .state) (x .memory) f w Q d v
   held-fresh order {x} fresh = record {
-    possible = omega (arith, pow-pos (tickBits n k));
+    possible = fresh-possible fresh;
     halves = record {
       words-lent = fresh .words-lent;
       marks-lent = fresh .marks-lent;
@@ -284,7 +276,7 @@ module _ {n k : ℕ} (within : k ≤ n) where
           let reads = placesOf n k e (1 - st .h) (st .r) in
           let place : getD reads (portOf k (Q i)) 0 ≡ placeIn n (1 - st .h) (e (Q i)) = rw now at (place-of n k e (1 - st .h) (Q i)) in
           rw (lt-ltb (st .r) (ticks n k) busy) (
-          words-at reads (m .words) (portOf k (Q i)) (omega (arith, places-length n k e (1 - st .h) (st .r), port-below k (Q i)))
+          words-at reads (m .words) (portOf k (Q i)) (omega (arith, places-length n k e (1 - st .h) (st .r), port-lt k (Q i)))
           ∙ rw (place, ← old .in-order i l) (held .halves .leaving i l .word (omega arith))
           )
 

@@ -1,6 +1,6 @@
 -- Laws over every series.
 pub mod SeriesLaws
-pub mod StateLaws
+pub mod CountedLaws
 pub mod TurnLaws
 pub mod RefusalLaws
 pub mod HalfLaws

@@ -13,14 +13,14 @@ use mathlib.Core.Bool.{cond}
 use mathlib.Core.List.{List, [], flatten}
 use mathlib.Core.Logic.{inl, inr}
 use native.Mathlib.Decide.{decLt}
-use native.Mathlib.Nat.{suc-mul, mod-lt}
+use native.Mathlib.Nat.{suc-mul}
 use native.Mathlib.Omega.{arith}
 use borrow.Author.Tests.{lt-ltb, le-ltb}
 use lib.Dec.{ltb}
 use lib.ListN.{length, getD}
 use lib.Pow.{pow-pos, suc-ones, split}
 use Rattle.kinds.specs.Frame.{tickBits, ticks, tickOf, portOf, wordAt, inOrder}
-use Rattle.kinds.proofs.FrameLaws.{frame-whole, tick-lt, in-order-length, in-order-at}
+use Rattle.kinds.proofs.FrameLaws.{frame-whole, tick-lt, port-lt, in-order-length, in-order-at}
 use Rattle.promise.specs.Series.{callAt, Series, wordsBefore, wordIn, CompletedIn}
 use Rattle.promise.proofs.SeriesLaws.{before-none, before-more, word-comes}
 
@@ -70,7 +70,7 @@ module _ (n k : ℕ) (u : ℕ → ℕ) where
         let c = tickOf k i in
         let p = portOf k i in
         let tick : c < T = tick-lt within h in
-        let port : p < 2 ^ k = mod-lt i (pow-pos k) in
+        let port : p < 2 ^ k = port-lt k i in
         let comes : 0 * 2 ^ n + i ≡ wordsBefore one-frame c + p = omega (arith, before-frame-call c (omega arith), split i k) in
         ap (λ (x : ℕ). getD (flatten one-frame) x 0) comes
         ∙ word-comes one-frame c p (omega (arith, one-frame-length)) (rw (came c tick) port)

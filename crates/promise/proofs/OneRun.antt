@@ -1,5 +1,5 @@
 -- The run over one frame and then as many blank calls, from a fresh stand, where f and g are the maps for every frame.
---   right-fits          where every run with the maps f and g is right for the order P, they are what they must be
+--   right-fits          where every run with the maps f and g is right for the order P, f and g fit P
 use Prim.Native.Nat.{ℕ, zero, suc, _+_, _-_, _*_, _^_, _<_, _≤_}
 use mathlib.Core.Path.{_≡_, refl, sym, ap, ap₂, _∙_}
 use mathlib.Core.Bool.{cond}
@@ -7,7 +7,7 @@ use mathlib.Core.List.{List, [], _∷_}
 use mathlib.Core.Logic.{_≢_}
 use mathlib.Core.Option.{none}
 use native.Mathlib.Decide.{ℕ-discrete, decLt}
-use native.Mathlib.Nat.{add-suc, suc-mul, mod-lt}
+use native.Mathlib.Nat.{add-suc, suc-mul}
 use native.Mathlib.Numerals.{add-one}
 use native.Mathlib.Omega.{arith}
 use borrow.Author.Tests.{lt-ltb, le-ltb, eq-eqb, ne-eqb}
@@ -16,7 +16,7 @@ use lib.ListN.{length, getD, replicate, length-replicate, getD-replicate}
 use lib.Pow.{pow-pos, split}
 use Rattle.kinds.specs.Frame.{tickBits, ticks, tickOf, portOf, wordAt, bankOf}
 use Rattle.kinds.specs.Lowest.{EachReason}
-use Rattle.kinds.proofs.FrameLaws.{frame-whole, tick-lt}
+use Rattle.kinds.proofs.FrameLaws.{frame-whole, tick-lt, port-lt}
 use Rattle.kinds.proofs.TruthLaws.{stable}
 use Rattle.kinds.proofs.LowestLaws.{lowest-none}
 use Rattle.span.specs.Maps.{Injective, Bijection}
@@ -29,7 +29,7 @@ use Rattle.run.specs.Call.{placesOf, readsOf, writesOf, accessOf, Outcome, carr
 use Rattle.run.specs.declared.State.{State}
 use Rattle.run.proofs.MemoryLaws.{words-at, put-length}
 use Rattle.run.proofs.CountLaws.{put-other, Different, put-in, apart}
-use Rattle.run.proofs.PlaceLaws.{places-at, places-length, places-below}
+use Rattle.run.proofs.PlaceLaws.{places-at, places-length, places-clash, places-below}
 use Rattle.run.proofs.CallLaws.{call-given, call-done}
 use Rattle.promise.specs.Series.{callAt, Series, dueCall, Stand, Fresh, standing, outcomeOf, called, RightOver}
 use Rattle.promise.specs.Passes.{BanksApart, Fits}
@@ -78,11 +78,6 @@ module _ (n k : ℕ) (f : ℕ → ℕ) (c : ℕ) where
 
   cell-at : (p : ℕ) → p < 2 ^ k → getD cells p 0 ≡ f (wordAt k c p)
   cell-at p h = omega (arith, places-at n k f 0 c p h)
-
-  banks-apart : ¬ Clash k cells → (p q : ℕ) → p < q → q < 2 ^ k → bankOf k (f (wordAt k c p)) ≢ bankOf k (f (wordAt k c q))
-  banks-apart apart p q l h same =
-      let all = cells-length in
-      apart (p, omega arith, (q, omega arith, (l, ap (bankOf k) (cell-at p (omega arith)) ∙ same ∙ ap (bankOf k) (sym (cell-at q h)))))
 
   tick-put : ((i : ℕ) → f i < 2 ^ n) → Different cells → ((i p : ℕ) → i < c * 2 ^ k → p < 2 ^ k → f (wordAt k c p) ≢ f i)
       → (v : ℕ → ℕ) (l vs : List ℕ) → length l ≡ 2 ^ (n + 1) → length vs ≡ 2 ^ k → ((p : ℕ) → p < 2 ^ k → getD vs p 0 ≡ v (wordAt k c p))
@@ -187,11 +182,11 @@ module _ (n k : ℕ) (P f g u : ℕ → ℕ) (right : RightOver n k (λ F. P) (o
   reads-apart : (c : ℕ) → c < T → ¬ Clash k (cells n k g c)
   reads-apart c h = rw (blank-reads c h) at (nothing-wrong (T + c) (omega arith) .1 .1 .0)
 
-  write-banks : BanksApart n k f
-  write-banks c p q h = banks-apart n k f c (writes-apart c h) p q
+  write-banks : k ≤ n → BanksApart n k f
+  write-banks within c p q h below last same = writes-apart c h (places-clash within f 0 c .1 (p, q, below, last, same))
 
-  read-banks : BanksApart n k g
-  read-banks c p q h = banks-apart n k g c (reads-apart c h) p q
+  read-banks : k ≤ n → BanksApart n k g
+  read-banks within c p q h below last same = reads-apart c h (places-clash within g 0 c .1 (p, q, below, last, same))
 
   frame-memory : (c : ℕ) → c < T → before (suc c) .memory ≡ stored (cells n k f c) (callAt S c) (before c .memory)
   unfolding put
@@ -214,19 +209,19 @@ module _ (n k : ℕ) (P f g u : ℕ → ℕ) (right : RightOver n k (λ F. P) (o
       ∙ ap₂ (λ (ws : List ℕ) (x : ℕ). getD ws x 0) (blank-words c (omega arith)) (cell-at n k g c p l)
 
   -- the words that came before call c stand in their cells, each with mark 1
-  record Held (c : ℕ) : Type 0 where
+  record InPlace (c : ℕ) : Type 0 where
     words-lent : length (before c .memory .words) ≡ 2 ^ (n + 1)
     marks-lent : length (before c .memory .marks) ≡ 2 ^ (n + 1)
     words : InCells f u (before c .memory .words) (c * 2 ^ k)
     marks : InCells f (λ i. 1) (before c .memory .marks) (c * 2 ^ k)
 
-  new-cells : (c : ℕ) → c < T → Held c → (i p : ℕ) → i < c * 2 ^ k → p < 2 ^ k → f (wordAt k c p) ≢ f i
+  new-cells : (c : ℕ) → c < T → InPlace c → (i p : ℕ) → i < c * 2 ^ k → p < 2 ^ k → f (wordAt k c p) ≢ f i
   new-cells c h held i p early port same =
       let marked = ap (λ (x : ℕ). getD (before c .memory .marks) x 0) (cell-at n k f c p port ∙ same) ∙ held .marks i early in
       writes-empty c h (p, rw (cells-length n k f c) port, λ empty. omega arith)
 
   module _ (within : k ≤ n) (into : (i : ℕ) → f i < 2 ^ n) where
-    held : (c : ℕ) → c ≤ T → Held c
+    held : (c : ℕ) → c ≤ T → InPlace c
     unfolding standing
     held zero h = record { words-lent = zeros-length n; marks-lent = zeros-length n; words = λ i b. absurd (omega arith); marks = λ i b. absurd (omega arith) }
     held (suc c) h =
@@ -249,14 +244,14 @@ module _ (n k : ℕ) (P f g u : ℕ → ℕ) (right : RightOver n k (λ F. P) (o
         let c = tickOf k j in
         let p = portOf k j in
         let tick : c < T = tick-lt within h in
-        let port : p < 2 ^ k = mod-lt j (pow-pos k) in
+        let port : p < 2 ^ k = port-lt k j in
         let word : wordAt k c p ≡ j = split j k in
         elim (decLt i (c * 2 ^ k)) [
           | yes early ↦ new-cells c tick (held c (omega arith)) i p early port (ap f word ∙ sym same)
           | no late ↦
               let q = i - c * 2 ^ k in
               let same-tick : wordAt k c q ≡ i = omega arith in
-              write-banks c q p tick (omega arith) port (ap (bankOf k) (ap f same-tick ∙ same ∙ ap f (sym word)))
+              write-banks within c q p tick (omega arith) port (ap (bankOf k) (ap f same-tick ∙ same ∙ ap f (sym word)))
         ])
 
     leaves-as : (i : ℕ) → i < 2 ^ n → P i < 2 ^ n → getD (before T .memory .words) (g (P i)) 0 ≡ u i
@@ -266,7 +261,7 @@ module _ (n k : ℕ) (P f g u : ℕ → ℕ) (right : RightOver n k (λ F. P) (o
         let tick : c < T = tick-lt within l in
         let due : T + c ≡ dueCall k P (T - 1) i = omega (arith, pow-pos (tickBits n k)) in
         ap (λ (x : ℕ). getD (before T .memory .words) (g x) 0) (sym (split (P i) k))
-        ∙ sym (blank-leaving c p tick (mod-lt (P i) (pow-pos k)))
+        ∙ sym (blank-leaving c p tick (port-lt k (P i)))
         ∙ ap (λ (j : ℕ). getD (outcome j .leaving) p 0) due
         ∙ right .leaves 0 (T - 1) i (completed n k u within) h (omega (arith, one-frame-length n k u)) .word
         ∙ word-in n k u within i h
@@ -292,8 +287,8 @@ module _ (n k : ℕ) (P f g : ℕ → ℕ) (within : k ≤ n) (into : (i : ℕ) 
   right-fits right = record {
     write-cells = into;
     read-cells = from;
-    write-banks = write-banks n k P f g (only 0) (over 0);
-    read-banks = read-banks n k P f g (only 0) (over 0);
+    write-banks = write-banks n k P f g (only 0) (over 0) within;
+    read-banks = read-banks n k P f g (only 0) (over 0) within;
     own-cells = own-cells n k P f g (only 0) (over 0) within into;
     places = places;
     in-order = λ i h.

@@ -1,6 +1,6 @@
 -- What a right run hands out for a frame.
 --   Whole k o        where o j is what comes of call j: a call that hands out a tick hands out 2^k words, and any other none
---   over-tick        in the calls after the one that completes a frame, its words leave tick by tick, in order
+--   over-tick        in the calls after the one that completes a frame, the ticks of the frame put in order leave, one in each call
 --   over-alone       so what leaves for a frame depends on its own words, its order and the pattern of calls alone: frames do not leak
 --   right-tick       for a right sheet: the ticks of the moved frame leave, one by one
 --   right-alone      and frames do not leak

@@ -1,5 +1,6 @@
 -- What a series brings, call by call.
 --   call-count        a call brings as many words as the run asks for
+--   count-call        and 2^k words or none, of 32 bits each, are a call
 --   before-none       before call 0 nothing has come
 --   before-more       before the next call, the words of this one have come too
 --   word-comes        the word at port p of call j is the one that comes after p others and all before call j
@@ -11,11 +12,15 @@ use native.Mathlib.Omega.{arith}
 use lib.ListN.{length, getD, take, length-append, List·getD-append}
 use lib.Seq.{getD-append-add}
 use Rattle.run.specs.Tool.{rightTick}
-use Rattle.promise.specs.Series.{IsCall, callAt, wordsBefore}
+use Rattle.promise.specs.Series.{Words32, IsCall, callAt, wordsBefore}
 
 pub call-count : {k : ℕ} (ws : List ℕ) → IsCall k ws → length ws ≡ rightTick k (length ws)
 call-count [] is = refl
 call-count (w ∷ ws) is = elim (is .count) [ inl e ↦ e | inr e ↦ omega (arith, e) ]
+
+pub count-call : {k : ℕ} (ws : List ℕ) → Words32 ws → length ws ≡ rightTick k (length ws) → IsCall k ws
+count-call [] words e = record { count = inr refl; words = words }
+count-call (w ∷ ws) words e = record { count = inl e; words = words }
 
 flatten-cons : (ws : List ℕ) (S : List (List ℕ)) → flatten (ws ∷ S) ≡ ws ++ flatten S
 unfolding flatten

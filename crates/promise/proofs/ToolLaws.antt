@@ -1,22 +1,18 @@
 -- The run as a tool over a series of calls.
---   Fair o m ws         what came of a call that brought ws to the memory m: the memory has its places, and the filled marks grew by the words taken in, and shrank by those handed out
---   call-fair           a refused call is fair, and so is one whose marks are
---   conserved-by        where every call of a run from zero marks was fair: "words taken in, less words handed out, over the successful calls, equal the filled marks" (01, 'One tick of the run')
---   tool-conserved      so it is of the tool, whatever the sheet, the series and the buffers
---   tool-possible       and from a possible state every state met is possible
+--   tool-conserved      "words taken in, less words handed out, over the successful calls, equal the filled marks" (01, 'One tick of the run'), whatever the sheet, the series and the buffers
+--   tool-possible       from fresh every state met is possible
 --   tool-runs           with a sheet that keeps the layout and a series of calls, the tool's run from fresh is the sheet's: 1, 2, 5 and 10 are never given
 --   tool-outcome        and so is what comes of each call
 --   tool-right          so where the sheet is right for an order, what the tool answers is
 use Prim.Native.Nat.{ℕ, zero, suc, _+_, _^_, _<_, _≤_}
 use mathlib.Core.Path.{_≡_, refl, ap, _∙_}
 use mathlib.Core.Bool.{cond}
-use mathlib.Core.List.{List, [], _∷_}
+use mathlib.Core.List.{List}
 use mathlib.Core.Option.{Option, none, some}
 use native.Mathlib.Omega.{arith}
 use lib.ListN.{length}
-use lib.Pow.{pow-pos}
 use Rattle.kinds.specs.Edition.{Edition, Sized, sheetPlaces}
-use Rattle.kinds.specs.Frame.{tickBits, ticks}
+use Rattle.kinds.specs.Frame.{ticks}
 use Rattle.kinds.specs.Lowest.{Reason, lowest}
 use Rattle.kinds.specs.declared.Refusal.{Refusal}
 use Rattle.kinds.proofs.LowestLaws.{lowest-none}
@@ -29,23 +25,23 @@ use Rattle.run.specs.Call.{Outcome, call}
 use Rattle.run.specs.Tool.{beforeFaults}
 use Rattle.run.specs.declared.State.{State}
 use Rattle.run.proofs.MemoryLaws.{put-length}
+use Rattle.run.proofs.CountLaws.{zero-marks}
 use Rattle.run.proofs.CallLaws.{call-refused, call-done, call-past, call-leaving, sheet-call-possible, sheet-call-filled}
-use Rattle.promise.specs.Series.{callAt, Series, Stand, Fresh, takenBy, standing, outcomeOf, wordsTaken, wordsHanded, called, ticked, standingOn, outcomeOn, RightOver, Right}
+use Rattle.promise.specs.Series.{callAt, Series, Stand, Fresh, ifSuccessful, standing, outcomeOf, wordsTaken, wordsHanded, called, ticked, standingOn, outcomeOn, RightOver, Right}
 use Rattle.promise.proofs.SeriesLaws.{call-count}
+use Rattle.promise.proofs.CountedLaws.{fresh-possible}
 
-pub record Fair (o : Outcome) (m : Memory) (ws : List ℕ) : Type 0 where
-  pub words : length (o .memory .words) ≡ length (m .words)
-  pub marks : length (o .memory .marks) ≡ length (m .marks)
-  pub filled : filledMarks (m .marks) + takenBy (o .refusal) ws ≡ filledMarks (o .memory .marks) + length (o .leaving)
-
-fair-by : {o u : Outcome} {m : Memory} {ws : List ℕ} → o ≡ u → Fair u m ws → Fair o m ws
-fair-by e fair = rw e fair
+-- What came of a call that brought ws to the memory m: the memory has its places, and the filled marks grew by the words taken in, and shrank by those handed out.
+record Fair (o : Outcome) (m : Memory) (ws : List ℕ) : Type 0 where
+  words : length (o .memory .words) ≡ length (m .words)
+  marks : length (o .memory .marks) ≡ length (m .marks)
+  filled : filledMarks (m .marks) + ifSuccessful (o .refusal) (length ws) ≡ filledMarks (o .memory .marks) + ifSuccessful (o .refusal) (length (o .leaving))
 
 module _ (t : List Reason) (n k : ℕ) (f g : ℕ → ℕ) (st : State) (ws : List ℕ) (m : Memory) where
   abbrev this : Outcome
   this = call t n k f g st ws m
 
-  pub call-fair : (this .refusal ≡ none → filledMarks (this .memory .marks) + cond (this .handed) (2 ^ k) 0 ≡ filledMarks (m .marks) + length ws) → Fair this m ws
+  call-fair : (this .refusal ≡ none → filledMarks (this .memory .marks) + cond (this .handed) (2 ^ k) 0 ≡ filledMarks (m .marks) + length ws) → Fair this m ws
   call-fair counted = go (this .refusal) refl
     where
       go : (o : Option Refusal) → this .refusal ≡ o → Fair this m ws
@@ -56,16 +52,10 @@ module _ (t : List Reason) (n k : ℕ) (f g : ℕ → ℕ) (st : State) (ws : Li
             marks = rw done (put-length _ _ _ ∙ put-length _ _ _);
             filled = rw ok (omega (arith, counted ok, call-leaving t n k f g st ws m));
           }
-      go (some x) given = fair-by (call-refused t n k f g st ws m given) (record { words = refl; marks = refl; filled = refl })
-
-zero-marks : (l : List ℕ) → AllZero l → filledMarks l ≡ 0
-unfolding filledMarks
-zero-marks [] zeros = refl
-zero-marks (zero ∷ l) zeros = zero-marks l (λ j h. zeros (suc j) (omega arith))
-zero-marks (suc v ∷ l) zeros = absurd (omega (arith, zeros 0 (omega arith)))
+      go (some x) given = rw (call-refused t n k f g st ws m given) (record { words = refl; marks = refl; filled = refl })
 
 module _ (made : ℕ → Stand → Outcome) (x : Stand) (S : List (List ℕ)) (fair : (j : ℕ) → Fair (outcomeOf made x j) (standing made x j .memory) (callAt S j)) where
-  pub conserved-by : AllZero (x .memory .marks) → (j : ℕ) → wordsTaken made x S j ≡ filledMarks (standing made x j .memory .marks) + wordsHanded made x j
+  conserved-by : AllZero (x .memory .marks) → (j : ℕ) → wordsTaken made x S j ≡ filledMarks (standing made x j .memory .marks) + wordsHanded made x j
   unfolding standing wordsTaken wordsHanded
   conserved-by zeros zero = omega (arith, zero-marks (x .memory .marks) zeros)
   conserved-by zeros (suc j) = omega (arith, conserved-by zeros j, fair j .filled)
@@ -105,10 +95,13 @@ module _ (e : Edition) (n k : ℕ) (s : List ℕ) (S : List (List ℕ)) (out : �
   stays-possible j y possible (some r) given =
       rw (ap (λ (o : Outcome). o .state) (call-refused (before j y) n k (M e n k s) (N e n k s) (y .state) (callAt S j) (y .memory) given)) possible
 
-  pub tool-possible : Possible (ticks n k) (x .state) → (j : ℕ) → Possible (ticks n k) (standing tool x j .state)
+  possible-at : Possible (ticks n k) (x .state) → (j : ℕ) → Possible (ticks n k) (standing tool x j .state)
   unfolding standing
-  tool-possible possible zero = possible
-  tool-possible possible (suc j) = let y = standing tool x j in stays-possible j y (tool-possible possible j) (tool j y .refusal) refl
+  possible-at possible zero = possible
+  possible-at possible (suc j) = let y = standing tool x j in stays-possible j y (possible-at possible j) (tool j y .refusal) refl
+
+  pub tool-possible : Fresh n k x → (j : ℕ) → Possible (ticks n k) (standing tool x j .state)
+  tool-possible fresh = possible-at (fresh-possible fresh)
 
   module _ (sized : Sized e n k) (whole : length s ≡ sheetPlaces e) (formed : WellFormed e n k s) (room : (j : ℕ) → j < length S → length (out j) ≡ 2 ^ k)
       (fresh : Fresh n k x) (series : Series k S) where
@@ -116,7 +109,7 @@ module _ (e : Edition) (n k : ℕ) (s : List ℕ) (S : List (List ℕ)) (out : �
     nothing-wrong j h =
         let y = standing tool x j in
         let (words, marks) = lent-by tool x S fair-at j in
-        let possible = tool-possible (omega (arith, fresh .nothing-coming, fresh .half, fresh .idle, pow-pos (tickBits n k))) j in
+        let possible = tool-possible fresh j in
         lowest-none (before j y) .1 (
           λ outside. outside sized,
           (

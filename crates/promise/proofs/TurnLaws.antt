@@ -1,6 +1,5 @@
 -- When frames are read, as long as no call is refused: the states of a run follow the series.
 --   reads-in-turn    a frame completed in call T is read from call T + 1 on, a tick in each call, and the next frame is not completed before it is read
---   DueNow j         the tick that the reader is at in call j is due then
 --   reads-only       and where a tick is read, it is one of such a frame
 use Prim.Native.Nat.{ℕ, zero, suc, _+_, _<_, _≤_}
 use mathlib.Core.Path.{_≡_, refl, ap, _∙_}
@@ -9,20 +8,14 @@ use mathlib.Core.Logic.{_⊎_, inl, inr}
 use native.Mathlib.Decide.{decLt}
 use native.Mathlib.Nat.{le-div-iff-mul-le, div-lt-iff-lt-mul}
 use native.Mathlib.Omega.{arith}
-use borrow.Author.Tests.{lt-ltb, le-ltb}
 use lib.ListN.{length}
 use lib.Pow.{pow-pos}
 use Rattle.kinds.specs.Frame.{tickBits, ticks}
 use Rattle.run.specs.States.{afterRead, next}
 use Rattle.run.specs.declared.State.{State}
+use Rattle.run.proofs.StateLaws.{read-more, read-idle}
 use Rattle.promise.specs.Series.{callAt, Series, CompletedIn, TickDue, incoming}
-use Rattle.promise.proofs.StateLaws.{Counted, Stays, Turns, counted-call}
-
-read-more : (T : ℕ) (st : State) → st .r < T → afterRead T st .r ≡ st .r + 1
-read-more T st busy = rw (lt-ltb (st .r) T busy)
-
-read-none : (T : ℕ) (st : State) → T ≤ st .r → afterRead T st .r ≡ st .r
-read-none T st idle = rw (le-ltb (st .r) T idle)
+use Rattle.promise.proofs.CountedLaws.{Counted, Stays, Turns, counted-call}
 
 module _ {n k : ℕ} (within : k ≤ n) (S : List (List ℕ)) (series : Series k S) (st : ℕ → State) (counted : (j : ℕ) → j ≤ length S → Counted n k S j (st j))
     (goes : (j : ℕ) → j < length S → st (suc j) ≡ next (ticks n k) (st j) (callAt S j)) where
@@ -70,7 +63,7 @@ module _ {n k : ℕ} (within : k ≤ n) (S : List (List ℕ)) (series : Series k
   }
 
   -- the tick that is read in call j is due then
-  abbrev pub DueNow : ℕ → Type 0
+  abbrev DueNow : ℕ → Type 0
   DueNow j = (due : TickDue n k S j) × (due .tick ≡ st j .r)
 
   due-next : (j : ℕ) → j < length S → (st j .r < ticks n k → DueNow j) → st (suc j) .r < ticks n k → Stays n k S j (st j) ⊎ Turns n k S j (st j) → DueNow (suc j)
@@ -90,7 +83,7 @@ module _ {n k : ℕ} (within : k ≤ n) (S : List (List ℕ)) (series : Series k
               },
               omega (arith, r, more, tick),
             )
-        | no idle ↦ absurd (omega (arith, r, read-none (ticks n k) (st j) (omega arith)))
+        | no idle ↦ absurd (omega (arith, r, read-idle (ticks n k) (st j) (omega arith)))
       ]
   due-next j reach before busy (inr turns) = (
     record {

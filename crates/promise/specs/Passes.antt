@@ -10,7 +10,7 @@
 --   Passes e n k C s         none of them applies
 -- What is asked of the maps f and g and the order P of a frame, whether or not they come from a sheet:
 --   BanksApart n k f         no two words of a tick have one bank
---   Fits n k P f g           every cell is below 2^n, and f has one for each word; banks are apart on either side; P is an order, and for the place P i the cell of word i is read
+--   Fits n k P f g           every cell is below 2^n, and f gives no two words one cell; banks are apart on either side; P is a bijection of words and places, and for the place P i the cell of word i is read
 use Prim.Native.Nat.{ℕ, _^_, _<_}
 use mathlib.Core.Path.{_≡_}
 use mathlib.Core.List.{List, [], _∷_}

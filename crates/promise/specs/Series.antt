@@ -14,17 +14,17 @@
 -- Where a word is due, if its frame is completed in call T, under an order that sends word i to place P i:
 --   dueCall k P T i          in the call in which its place's tick is due
 --   duePort k P i            at its place's port
--- The run, made j y being what comes of call j, made from y:
+-- The run, where made j y is what comes of call j, made from y:
 --   Stand                    where a run stands between two calls: the state, and the memory
 --   Fresh n k x              "marks zero, nothing coming in, half 0, reader idle". 2^(n+1) words are lent and as many marks; the words may be any
 --   standing made x j        where a run that starts at x stands before call j
 --   outcomeOf made x j       what comes of call j then
---   takenBy o ws             how many of the words ws a call takes in, where o is the refusal that it gives, if it gives one: then none
+--   ifSuccessful o m         the number m, where the call gives no refusal o; else 0
 --   wordsTaken made x S j, wordsHanded made x j      "words taken in" and "words handed out, over the successful calls" before call j, where the series S is brought
 -- The calls that can be made of a series S:
 --   incoming n S j           the frame that comes in at call j
 --   outgoing n S j           the frame before it: what is read in call j, if anything is left to read, is of this one
---   called n k f g S j y     call j, where f F i is the cell to which word i of frame F is written, and g F j the cell that is read for its place j
+--   called n k f g S j y     call j, where f F i is the cell to which word i of frame F is written, and g F q the cell that is read for its place q
 --   ticked e n k s S out j y     call j of the run as a tool, with the sheet s; out j is the out buffer that is lent
 --   standingOn e n k s x S j, outcomeOn e n k s x S j     the run of a sheet, which has M and N for every frame
 -- When it is right:
@@ -120,9 +120,9 @@ incoming n S j = wordsBefore S j / 2 ^ n
 abbrev pub outgoing : ℕ → List (List ℕ) → ℕ → ℕ
 outgoing n S j = incoming n S j - 1
 
-abbrev pub takenBy : Option Refusal → List ℕ → ℕ
-takenBy none ws = length ws
-takenBy (some r) ws = 0
+abbrev pub ifSuccessful : Option Refusal → ℕ → ℕ
+ifSuccessful none m = m
+ifSuccessful (some r) m = 0
 
 module _ (made : ℕ → Stand → Outcome) (x : Stand) where
   unfoldable pub standing : ℕ → Stand
@@ -134,11 +134,11 @@ module _ (made : ℕ → Stand → Outcome) (x : Stand) where
 
   unfoldable pub wordsTaken : List (List ℕ) → ℕ → ℕ
   wordsTaken S zero = 0
-  wordsTaken S (suc j) = wordsTaken S j + takenBy (outcomeOf j .refusal) (callAt S j)
+  wordsTaken S (suc j) = wordsTaken S j + ifSuccessful (outcomeOf j .refusal) (length (callAt S j))
 
   unfoldable pub wordsHanded : ℕ → ℕ
   wordsHanded zero = 0
-  wordsHanded (suc j) = wordsHanded j + length (outcomeOf j .leaving)
+  wordsHanded (suc j) = wordsHanded j + ifSuccessful (outcomeOf j .refusal) (length (outcomeOf j .leaving))
 
 abbrev pub called : ℕ → ℕ → (ℕ → ℕ → ℕ) → (ℕ → ℕ → ℕ) → List (List ℕ) → ℕ → Stand → Outcome
 called n k f g S j y = call [] n k (f (incoming n S j)) (g (outgoing n S j)) (y .state) (callAt S j) (y .memory)
@@ -158,6 +158,7 @@ IsFault o = (11 ≤ given o) × (given o ≤ 14)
 
 pub record Leaves (o : Outcome) (p w : ℕ) : Type 0 where
   pub handed : o .handed ≡ true
+  pub port : p < length (o .leaving)
   pub word : getD (o .leaving) p 0 ≡ w
 
 pub record RightOver (n k : ℕ) (P : ℕ → ℕ → ℕ) (o : ℕ → Outcome) (S : List (List ℕ)) : Type 0 where

@@ -1,5 +1,4 @@
 -- Laws of a call.
---   next-possible    the state after a possible one is possible
 --   call-given       the refusal of a call is what its table gives
 --   call-refused     a refused call changes nothing
 --   call-done        a call that is not refused is carried out
@@ -13,11 +12,9 @@
 use Prim.Native.Nat.{ℕ, _+_, _^_, _<_, _≤_}
 use mathlib.Core.Path.{_≡_, refl, sym, ap, _∙_}
 use mathlib.Core.Bool.{Bool, false, cond}
-use mathlib.Core.List.{List, [], _∷_, _++_}
+use mathlib.Core.List.{List, [], _++_}
 use mathlib.Core.Option.{Option, none, some}
-use native.Mathlib.Decide.{ℕ-discrete, decLt}
 use native.Mathlib.Omega.{arith}
-use borrow.Author.Tests.{lt-ltb, le-ltb, eq-eqb, ne-eqb}
 use lib.ListN.{length, getD, length-map}
 use Rattle.kinds.specs.Edition.{Edition}
 use Rattle.kinds.specs.Frame.{ticks}
@@ -28,27 +25,14 @@ use Rattle.bits.specs.Image.{AllBelow}
 use Rattle.maps.specs.Cells.{M, N}
 use Rattle.run.specs.Memory.{Memory, filledMarks}
 use Rattle.run.specs.Faults.{faults}
-use Rattle.run.specs.States.{Possible, afterWrite, turned, next}
+use Rattle.run.specs.States.{Possible}
 use Rattle.run.specs.Call.{readsOf, writesOf, accessOf, Outcome, carriedOut, refused, outcome, call}
 use Rattle.run.specs.Tool.{rightTick, beforeFaults, sheetCall}
 use Rattle.run.specs.declared.State.{State}
+use Rattle.run.proofs.StateLaws.{next-possible}
 use Rattle.run.proofs.TableLaws.{Sound, run-sound}
 use Rattle.run.proofs.PlaceLaws.{nothing, reads-length, writes-length, cell-into, reads-below, writes-below}
 use Rattle.run.proofs.CountLaws.{apart, served-filled}
-
-module _ (T : ℕ) where
-  after-read : (st : State) (ws : List ℕ) → Possible T st → st .a < st .r → Possible T (turned T (afterWrite st ws))
-  after-read st [] ok ahead = rw (ne-eqb (st .a) T (omega arith)) ok
-  after-read st (w ∷ ws) ok ahead = elim (ℕ-discrete (st .a + 1) T) [
-    | yes full ↦ rw (eq-eqb (st .a + 1) T full) (omega arith)
-    | no part ↦ rw (ne-eqb (st .a + 1) T part) (omega arith)
-  ]
-
-  pub next-possible : (st : State) (ws : List ℕ) → Possible T st → Possible T (next T st ws)
-  next-possible st ws ok = elim (decLt (st .r) T) [
-    | yes busy ↦ rw (lt-ltb (st .r) T busy) (after-read (record { a = st .a; h = st .h; r = st .r + 1 }) ws (omega arith) (omega arith))
-    | no idle ↦ rw (le-ltb (st .r) T (omega arith)) (after-read st ws ok (omega arith))
-  ]
 
 module _ (t : List Reason) (n k : ℕ) (f g : ℕ → ℕ) (st : State) (ws : List ℕ) (m : Memory) where
   abbrev writes : List ℕ

@@ -3,6 +3,7 @@
 --   Different cs    the places of cs are different
 --   put-in          where they are, each has the number that was put in it
 --   apart           cells that don't clash are different
+--   zero-marks      of zero marks none says filled
 --   served-filled   a call that writes empty cells and reads filled ones adds as many filled marks as it writes, and takes away as many as it reads
 use Prim.Native.Nat.{ℕ, zero, suc, _+_, _*_, _<_}
 use mathlib.Core.Path.{_≡_, refl, sym, ap, _∙_}
@@ -16,6 +17,7 @@ use lib.Seq.{getD-set-same, getD-set-other}
 use Rattle.kinds.specs.Frame.{bankOf}
 use Rattle.kinds.proofs.TruthLaws.{stable}
 use Rattle.bits.specs.Image.{AllBelow}
+use Rattle.sheet.specs.Layout.{AllZero}
 use Rattle.run.specs.Memory.{Memory, filledMarks, put, marked, Access, served}
 use Rattle.run.specs.Faults.{Clash, SomeFilled, SomeEmpty}
 use Rattle.run.proofs.MemoryLaws.{put-length}
@@ -26,6 +28,12 @@ put-other [] vs l y other = refl
 put-other (x ∷ cs) [] l y other = refl
 put-other (x ∷ cs) (v ∷ vs) l y other =
     put-other cs vs (set l x v) y (λ p h. other (suc p) (omega arith)) ∙ getD-set-other l x y v 0 (λ e. other 0 (omega arith) (sym e))
+
+pub zero-marks : (l : List ℕ) → AllZero l → filledMarks l ≡ 0
+unfolding filledMarks
+zero-marks [] zeros = refl
+zero-marks (zero ∷ l) zeros = zero-marks l (λ j h. zeros (suc j) (omega arith))
+zero-marks (suc v ∷ l) zeros = absurd (omega (arith, zeros 0 (omega arith)))
 
 set-filled : (l : List ℕ) (x v : ℕ) → x < length l → filledMarks (set l x v) + filledMarks (getD l x 0 ∷ []) ≡ filledMarks l + filledMarks (v ∷ [])
 unfolding filledMarks

@@ -3,6 +3,7 @@ pub mod MemoryLaws
 pub mod PartLaws
 pub mod FaultLaws
 pub mod TableLaws
+pub mod StateLaws
 pub mod PlaceLaws
 pub mod CountLaws
 pub mod CallLaws

@@ -1,11 +1,10 @@
 -- Places of the memory, and the cells that a call reads and writes.
---   half-bank          the bank of a place is that of its cell
 --   halves-apart       places of two halves are different
 --   places-at          the cells of a tick, one by one
 --   places-length      there are 2^k of them
 --   reads-length, writes-length    a call reads 2^k cells or none, and writes 2^k or none
 --   reads-few          so it reads at most 2^k
---   places-clash       the cells of a tick clash exactly when two of its words have one bank
+--   places-clash       the cells of a tick clash exactly when those of two of its words are of one bank
 --   cell-into          a side's map goes into 2^n cells
 --   places-below       where a map does, the places of a tick are places of the memory
 --   reads-below, writes-below      so are those that a call reads, and those that it writes
@@ -28,15 +27,15 @@ use Rattle.kinds.proofs.FrameLaws.{frame-whole, in-order-length, in-order-at, i
 use Rattle.bits.specs.Image.{AllBelow}
 use Rattle.sheet.specs.Sheet.{Side}
 use Rattle.sheet.specs.Layout.{InRange}
-use Rattle.maps.specs.Cells.{bankAt, cellAt, cellOf}
-use Rattle.maps.proofs.CellLaws.{cell-lt, cell-word, word-bank}
+use Rattle.maps.specs.Cells.{cellAt, cellOf}
+use Rattle.maps.proofs.CellLaws.{cell-lt, cell-word}
 use Rattle.run.specs.Faults.{Clash}
 use Rattle.run.specs.States.{reading}
 use Rattle.run.specs.Call.{placeIn, placesOf, readsOf, writesOf}
 use Rattle.run.specs.Tool.{rightTick}
 use Rattle.run.specs.declared.State.{State}
 
-pub half-bank : {n k : ℕ} → k ≤ n → (h x : ℕ) → bankOf k (placeIn n h x) ≡ bankOf k x
+half-bank : {n k : ℕ} → k ≤ n → (h x : ℕ) → bankOf k (placeIn n h x) ≡ bankOf k x
 half-bank {n} {k} within h x =
     ap (λ (i : ℕ). bankOf k (i + x)) (ap (λ (i : ℕ). h * i) (sym (frame-whole within)) ∙ sym (mul-assoc h (ticks n k) (2 ^ k)))
     ∙ mul-add-mod-self-right (h * ticks n k) (2 ^ k) x
@@ -69,23 +68,18 @@ module _ (n k : ℕ) (f : ℕ → ℕ) where
   writes-length st [] = refl
   writes-length st (w ∷ ws) = places-length (st .h) (st .a)
 
-module _ {n k : ℕ} {S : Side} (used : InRange n k S) (within : k ≤ n) where
-  place-bank : (h c p : ℕ) → p < 2 ^ k → bankOf k (placeIn n h (cellOf k S (wordAt k c p))) ≡ bankAt S c p
-  place-bank h c p l = half-bank within h (cellOf k S (wordAt k c p)) ∙ word-bank used c p l
+module _ {n k : ℕ} (within : k ≤ n) (f : ℕ → ℕ) (h c : ℕ) where
+  place-bank : (p : ℕ) → p < 2 ^ k → bankOf k (getD (placesOf n k f h c) p 0) ≡ bankOf k (f (wordAt k c p))
+  place-bank p l = ap (bankOf k) (places-at n k f h c p l) ∙ half-bank within h (f (wordAt k c p))
 
-  cell-bank : (h c p : ℕ) → p < 2 ^ k → bankOf k (getD (placesOf n k (cellOf k S) h c) p 0) ≡ bankAt S c p
-  cell-bank h c p l = ap (bankOf k) (places-at n k (cellOf k S) h c p l) ∙ place-bank h c p l
-
-  pub places-clash : (h c : ℕ)
-      → Clash k (placesOf n k (cellOf k S) h c) ↔ ((p : ℕ) × (q : ℕ) × (p < q) × (q < 2 ^ k) × (bankAt S c p ≡ bankAt S c q))
-  places-clash h c =
-      let all = places-length n k (cellOf k S) h c in (
-        λ (p, l, (q, r, (b, e))).
-            (p, q, b, omega arith, sym (cell-bank h c p (omega arith)) ∙ e ∙ cell-bank h c q (omega arith)),
-        λ (p, q, b, r, e).
-            (p, omega arith, (q, omega arith, (b, cell-bank h c p (omega arith) ∙ e ∙ sym (cell-bank h c q r)))),
+  pub places-clash : Clash k (placesOf n k f h c) ↔ ((p : ℕ) × (q : ℕ) × (p < q) × (q < 2 ^ k) × (bankOf k (f (wordAt k c p)) ≡ bankOf k (f (wordAt k c q))))
+  places-clash =
+      let all = places-length n k f h c in (
+        λ (p, l, (q, r, (b, e))). (p, q, b, omega arith, sym (place-bank p (omega arith)) ∙ e ∙ place-bank q (omega arith)),
+        λ (p, q, b, r, e). (p, omega arith, (q, omega arith, (b, place-bank p (omega arith) ∙ e ∙ sym (place-bank q r)))),
       )
 
+module _ {n k : ℕ} {S : Side} (used : InRange n k S) (within : k ≤ n) where
   pub cell-into : (i : ℕ) → cellOf k S i < 2 ^ n
   cell-into i = cell-lt used within (tickOf k i) (portOf k i)
 

@@ -7,6 +7,8 @@
 --   independent-rank, rank-independent    the rank is the length exactly when the list is independent
 --   independent-all-kept, all-kept-independent    the scan keeps all exactly when the list is independent
 --   columns-sum          the columns of a map are sums where its values at 1, 2, 4, .. are
+--   bijection-rank       a linear bijection of k bits has rank k
+--   rank-same            of maps that agree neither has the greater rank
 --   rank-xor             the rank of a sum of two maps is at most the sum of the ranks
 --   rank-after-inner, rank-after-outer    the rank of a composition is at most that of either map
 use Prim.Native.Nat.{ℕ, zero, suc, _+_, _^_, _≤_, _<_}
@@ -15,14 +17,15 @@ use mathlib.Core.List.{List, _++_, map}
 use native.Mathlib.Nat.{le-antisymm}
 use native.Mathlib.Omega.{arith}
 use lib.Bits.{bitXor}
+use lib.Pow.{pow-lt}
 use lib.ListN.{length, getD, length-map, length-append}
 use Rattle.bits.specs.Image.{image, AllBelow, Linear, columns}
 use Rattle.bits.proofs.ImageLaws.{image-zero, linear-map, linear-image, columns-length, columns-at}
-use Rattle.span.specs.Maps.{Injective}
+use Rattle.span.specs.Maps.{Injective, Bijection}
 use Rattle.span.specs.Sums.{SumOf, Independent}
 use Rattle.span.specs.Scan.{members, keptAt, IsKept, kept, rank, units, over}
-use Rattle.span.proofs.Counting.{injective-onto}
-use Rattle.span.proofs.SumLaws.{length-snoc, sum-image, sum-member, sum-xor, sum-left, sum-right, span-trans, independent-le, independent-width, independent-injective}
+use Rattle.span.proofs.Counting.{injective-onto, bijection-same}
+use Rattle.span.proofs.SumLaws.{length-snoc, sum-image, sum-member, sum-xor, sum-left, sum-right, span-trans, independent-le, independent-width, independent-injective, bijection-independent}
 use Rattle.span.proofs.ScanLaws.{members-at, keptAt-new, kept-independent, keptAt-below, scanned-sum}
 use Rattle.span.proofs.MaskLaws.{image-over, over-below, dependent-at}
 
@@ -108,6 +111,17 @@ columns-sum n f sums j h = let k : j < n = omega (arith, columns-length n f) in 
 
 value-sum : (n : ℕ) (f : ℕ → ℕ) (j : ℕ) → j < n → SumOf (kept (columns n f)) (f (2 ^ j))
 value-sum n f j h = rw (columns-at n f j h) at (kept-sum (columns n f) j (omega (arith, columns-length n f)))
+
+pub bijection-rank : (k : ℕ) (f : ℕ → ℕ) → Linear f → Bijection f (2 ^ k) → rank (columns k f) ≡ k
+bijection-rank k f linear b =
+    independent-rank (columns k f)
+    (bijection-independent k (columns k f) (columns-length k f) (bijection-same (λ i h. sym (linear-image k f linear i h)) b))
+    ∙ columns-length k f
+
+pub rank-same : (k : ℕ) (f g : ℕ → ℕ) → ((p : ℕ) → p < 2 ^ k → f p ≡ g p) → rank (columns k f) ≤ rank (columns k g)
+rank-same k f g same =
+    rank-le (columns k f) (columns k g)
+    (columns-sum k f (λ j h. rw (same (2 ^ j) (pow-lt h) ∙ sym (columns-at k g j h)) (sum-member (columns k g) j)))
 
 pub rank-xor : (n : ℕ) (f g : ℕ → ℕ) → rank (columns n (λ x. bitXor (f x) (g x))) ≤ rank (columns n f) + rank (columns n g)
 unfolding rank

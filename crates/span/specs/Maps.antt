@@ -3,7 +3,7 @@
 --   Injective f a     f sends no two numbers below a to one
 --   Onto f a b        each number below b is f of some number below a
 --   Bijection f n     f is a bijection of the numbers below n
---   injective?, onto?, bijection?      whether each of these is so
+--   injective? f a, onto? f a b, bijection? f n      whether each of these is so
 use Prim.Native.Nat.{ℕ, _<_}
 use mathlib.Core.Path.{_≡_}
 use native.Mathlib.Decide.{ℕ-discrete, decLt}

@@ -1,49 +1,29 @@
 -- How the state follows a series, as long as no call is refused.
---   next-blank         a blank tick pauses the frame that comes in
---   next-part          words that don't complete it are counted
---   next-full          words that do start the next one, and the reader
 --   Completes T st ws  a call that brings ws completes the frame that comes in, which has T ticks
---   Counted S j st     the state st before call j: possible, and a ticks of the incoming frame have come
+--   fresh-possible     a fresh run's state is possible
+--   Counted n k S j st the state st before call j: possible, and a ticks of the incoming frame have come
 --   Stays, Turns       a call that completes no frame, and one that does: the frame that comes in, and the reader, after it
 --   counted-call       every call is one of them, and the state after it is counted too
-use Prim.Native.Nat.{ℕ, suc, _+_, _-_, _*_, _/_, _^_, _<_, _≤_}
+use Prim.Native.Nat.{ℕ, suc, _+_, _*_, _/_, _^_, _<_, _≤_}
 use mathlib.Core.Path.{_≡_, refl, ap, _∙_}
-use mathlib.Core.Bool.{Bool, true, false, cond}
 use mathlib.Core.List.{List, [], _∷_}
-use mathlib.Core.Logic.{_≢_, _⊎_, inl, inr}
+use mathlib.Core.Logic.{_⊎_, inl, inr}
 use native.Mathlib.Decide.{ℕ-discrete}
 use native.Mathlib.Nat.{add-mul, mul-lt-mul-of-pos-right}
 use native.Mathlib.Omega.{arith}
-use borrow.Author.Tests.{eq-eqb, ne-eqb}
 use lib.ListN.{length}
 use lib.Pow.{pow-pos, high}
 use Rattle.kinds.specs.Frame.{tickBits, ticks}
 use Rattle.kinds.proofs.FrameLaws.{frame-whole}
-use Rattle.run.specs.States.{Possible, reading, afterRead, next}
+use Rattle.run.specs.States.{Possible, afterRead, next}
 use Rattle.run.specs.Tool.{rightTick}
 use Rattle.run.specs.declared.State.{State}
-use Rattle.run.proofs.CallLaws.{next-possible}
-use Rattle.promise.specs.Series.{IsCall, callAt, wordsBefore, incoming}
+use Rattle.run.proofs.StateLaws.{next-blank, next-part, next-full, next-possible}
+use Rattle.promise.specs.Series.{IsCall, callAt, wordsBefore, Stand, Fresh, incoming}
 use Rattle.promise.proofs.SeriesLaws.{call-count, before-more}
 
-module _ (T : ℕ) (st : State) where
-  -- the read changes the reader alone
-  read-only : afterRead T st ≡ record { a = st .a; h = st .h; r = afterRead T st .r }
-  read-only = go (reading T st)
-    where
-      go : (b : Bool) → _≡_ {A = State} (cond b (record { a = st .a; h = st .h; r = st .r + 1 }) st)
-          (record { a = st .a; h = st .h; r = cond b (record { a = st .a; h = st .h; r = st .r + 1 }) st .r })
-      go true = refl
-      go false = refl
-
-  pub next-blank : st .a < T → next T st [] ≡ record { a = st .a; h = st .h; r = afterRead T st .r }
-  next-blank part = rw (read-only, ne-eqb (st .a) T (omega arith))
-
-  pub next-part : (w : ℕ) (ws : List ℕ) → st .a + 1 ≢ T → next T st (w ∷ ws) ≡ record { a = st .a + 1; h = st .h; r = afterRead T st .r }
-  next-part w ws part = rw (read-only, ne-eqb (st .a + 1) T part)
-
-  pub next-full : (w : ℕ) (ws : List ℕ) → st .a + 1 ≡ T → next T st (w ∷ ws) ≡ record { a = 0; h = 1 - st .h; r = 0 }
-  next-full w ws full = rw (read-only, eq-eqb (st .a + 1) T full)
+pub fresh-possible : {n k : ℕ} {x : Stand} → Fresh n k x → Possible (ticks n k) (x .state)
+fresh-possible {n} {k} fresh = omega (arith, fresh .nothing-coming, fresh .half, fresh .idle, pow-pos (tickBits n k))
 
 abbrev pub Completes : ℕ → State → List ℕ → Type 0
 Completes T st ws = (0 < length ws) × (st .a + 1 ≡ T)

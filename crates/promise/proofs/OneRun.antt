@@ -28,6 +28,7 @@ use Rattle.run.specs.States.{next}
 use Rattle.run.specs.Call.{placesOf, readsOf, writesOf, accessOf, Outcome, carriedOut}
 use Rattle.run.specs.declared.State.{State}
 use Rattle.run.proofs.MemoryLaws.{words-at, put-length}
+use Rattle.run.proofs.StateLaws.{read-more, read-idle, next-blank, next-part, next-full}
 use Rattle.run.proofs.CountLaws.{put-other, Different, put-in, apart}
 use Rattle.run.proofs.PlaceLaws.{places-at, places-length, places-clash, places-below}
 use Rattle.run.proofs.CallLaws.{call-given, call-done}
@@ -43,17 +44,17 @@ coming T c = record { a = c; h = 0; r = T }
 abbrev leaving : ℕ → State
 leaving c = record { a = 0; h = 1; r = c }
 
-module _ (T : ℕ) where
-  next-coming : (c : ℕ) (ws : List ℕ) → 0 < length ws → suc c < T → next T (coming T c) ws ≡ coming T (suc c)
-  next-coming c [] came h = absurd (omega arith)
-  next-coming c (w ∷ ws) came h = rw (le-ltb T T (omega arith)) (rw (ne-eqb (c + 1) T (omega arith)) (rw (add-one c)))
+module _ (T c : ℕ) where
+  next-coming : (ws : List ℕ) → 0 < length ws → suc c < T → next T (coming T c) ws ≡ coming T (suc c)
+  next-coming [] came h = absurd (omega arith)
+  next-coming (w ∷ ws) came h = rw (next-part T (coming T c) w ws (omega arith), read-idle T (coming T c) (omega arith), add-one c)
 
-  next-turned : (c : ℕ) (ws : List ℕ) → 0 < length ws → suc c ≡ T → next T (coming T c) ws ≡ leaving 0
-  next-turned c [] came h = absurd (omega arith)
-  next-turned c (w ∷ ws) came h = rw (le-ltb T T (omega arith)) (rw (eq-eqb (c + 1) T (omega arith)))
+  next-turned : (ws : List ℕ) → 0 < length ws → suc c ≡ T → next T (coming T c) ws ≡ leaving 0
+  next-turned [] came h = absurd (omega arith)
+  next-turned (w ∷ ws) came h = next-full T (coming T c) w ws (omega arith)
 
-  next-leaving : (c : ℕ) → c < T → next T (leaving c) [] ≡ leaving (suc c)
-  next-leaving c h = rw (lt-ltb c T h) (rw (ne-eqb 0 T (omega arith)) (rw (add-one c)))
+  next-leaving : c < T → next T (leaving c) [] ≡ leaving (suc c)
+  next-leaving h = rw (next-blank T (leaving c) (omega arith), read-more T (leaving c) h, add-one c)
 
 -- word i has v i in its cell, for each i below b
 abbrev InCells : (ℕ → ℕ) → (ℕ → ℕ) → List ℕ → ℕ → Type 0

@@ -12,4 +12,5 @@ pub mod RightLaws
 pub mod BoundLaws
 pub mod ExactLaws
 pub mod ToolLaws
+pub mod CallerLaws
 pub mod Cases

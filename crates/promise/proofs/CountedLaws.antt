@@ -1,5 +1,6 @@
 -- How the state follows a series, as long as no call is refused.
 --   Completes T st ws  a call that brings ws completes the frame that comes in, which has T ticks
+--   fresh-any          whatever words of 32 bits the memory holds, a run with zero marks, nothing coming in, half 0 and an idle reader is fresh
 --   fresh-possible     a fresh run's state is possible
 --   Counted n k S j st the state st before call j: possible, and a ticks of the incoming frame have come
 --   Stays, Turns       a call that completes no frame, and one that does: the frame that comes in, and the reader, after it
@@ -15,12 +16,26 @@ use lib.ListN.{length}
 use lib.Pow.{pow-pos, high}
 use Rattle.kinds.specs.Frame.{tickBits, ticks}
 use Rattle.kinds.proofs.FrameLaws.{frame-whole}
+use Rattle.sheet.specs.Layout.{AllZero}
+use Rattle.run.specs.Memory.{Memory}
 use Rattle.run.specs.States.{Possible, afterRead, next}
 use Rattle.run.specs.Tool.{rightTick}
 use Rattle.run.specs.declared.State.{State}
 use Rattle.run.proofs.StateLaws.{next-blank, next-part, next-full, next-possible}
-use Rattle.promise.specs.Series.{IsCall, callAt, wordsBefore, Stand, Fresh, incoming}
+use Rattle.promise.specs.Series.{Words32, IsCall, callAt, wordsBefore, Stand, Fresh, incoming}
 use Rattle.promise.proofs.SeriesLaws.{call-count, before-more}
+
+pub fresh-any : {n k : ℕ} (m : Memory) → length (m .words) ≡ 2 ^ (n + 1) → Words32 (m .words) → length (m .marks) ≡ 2 ^ (n + 1) → AllZero (m .marks)
+    → Fresh n k (record { state = record { a = 0; h = 0; r = ticks n k }; memory = m })
+fresh-any m lent words marks zeros = record {
+  words-lent = lent;
+  words = words;
+  marks-lent = marks;
+  marks-zero = zeros;
+  nothing-coming = refl;
+  half = refl;
+  idle = refl;
+}
 
 pub fresh-possible : {n k : ℕ} {x : Stand} → Fresh n k x → Possible (ticks n k) (x .state)
 fresh-possible {n} {k} fresh = omega (arith, fresh .nothing-coming, fresh .half, fresh .idle, pow-pos (tickBits n k))

@@ -34,6 +34,7 @@ use Rattle.run.proofs.PlaceLaws.{places-at, places-length, places-clash, places
 use Rattle.run.proofs.CallLaws.{call-given, call-done}
 use Rattle.promise.specs.Series.{callAt, Series, dueCall, Stand, Fresh, standing, outcomeOf, called, RightOver}
 use Rattle.promise.specs.Passes.{BanksApart, Fits}
+use Rattle.promise.proofs.CountedLaws.{fresh-any}
 use Rattle.promise.proofs.RefusalLaws.{no-fault-none}
 use Rattle.promise.proofs.OneFrame.{one-frame, one-frame-length, came, came-at, some-came, blank-call, completed, word-in, one-frame-series}
 
@@ -107,15 +108,7 @@ abbrev fresh : ℕ → ℕ → Stand
 fresh n k = record { state = coming (ticks n k) 0; memory = record { words = zeros n; marks = zeros n } }
 
 is-fresh : (n k : ℕ) → Fresh n k (fresh n k)
-is-fresh n k = record {
-  words-lent = zeros-length n;
-  words = λ j h. rw (all-zero j h) (omega arith);
-  marks-lent = zeros-length n;
-  marks-zero = all-zero;
-  nothing-coming = refl;
-  half = refl;
-  idle = refl;
-}
+is-fresh n k = fresh-any (record { words = zeros n; marks = zeros n }) (zeros-length n) (λ j h. rw (all-zero j h) (omega arith)) (zeros-length n) all-zero
   where
     all-zero : AllZero (zeros n)
     all-zero j h = getD-replicate (2 ^ (n + 1)) j 0 0 (rw (zeros-length n) at h)
@@ -264,7 +257,7 @@ module _ (n k : ℕ) (P f g u : ℕ → ℕ) (right : RightOver n k (λ F. P) (o
         ap (λ (x : ℕ). getD (before T .memory .words) (g x) 0) (sym (split (P i) k))
         ∙ sym (blank-leaving c p tick (port-lt k (P i)))
         ∙ ap (λ (j : ℕ). getD (outcome j .leaving) p 0) due
-        ∙ right .leaves 0 (T - 1) i (completed n k u within) h (omega (arith, one-frame-length n k u)) .word
+        ∙ right .leaves 0 (T - 1) i (completed n k u within) (omega arith) (omega (arith, one-frame-length n k u)) .word
         ∙ word-in n k u within i h
 
     read-from : (i : ℕ) → i < 2 ^ n → P i < 2 ^ n → g (P i) < 2 ^ n → (j : ℕ) × (f j ≡ g (P i)) × (u j ≡ u i)

@@ -16,6 +16,7 @@
 --   columns-length, columns-at    there are n columns, and column j is the value at 2^j
 --   columns-below       values of m bits give columns of m bits
 --   columns-image       the columns of an image are the columns
+--   columns-same        maps that agree at each 2^j have the same columns
 --   linear-image        a linear map on the numbers of n bits is the image under its columns
 --   same-image          columns that show the same numbers have the same images
 --   linear-agree        two linear maps that agree at 2^0 .. 2^(n-1) agree on all numbers of n bits
@@ -169,16 +170,16 @@ linear-image (suc n) f l x h =
     ∙ ap₂ bitXor (ap f (low-chosen x) ∙ linear-chosen f l (x % 2) 1)
     (linear-image n (λ y. f (2 * y)) (linear-double f l) (x / 2) (omega (arith, pow-suc 2 n)))
 
+pub columns-same : (n : ℕ) (f g : ℕ → ℕ) → ((j : ℕ) → j < n → f (2 ^ j) ≡ g (2 ^ j)) → columns n f ≡ columns n g
+columns-same n f g same =
+    ext-getD 0 (columns n f) (columns n g) (columns-length n f ∙ sym (columns-length n g))
+    (λ j h.
+    let k : j < n = omega (arith, columns-length n f) in columns-at n f j k ∙ same j k ∙ sym (columns-at n g j k))
+
 pub linear-agree : (n : ℕ) (f g : ℕ → ℕ) → Linear f → Linear g → ((j : ℕ) → j < n → f (2 ^ j) ≡ g (2 ^ j))
     → (x : ℕ) → x < 2 ^ n → f x ≡ g x
 linear-agree n f g l m same x b =
-    linear-image n f l x b ∙ ap (λ (cs : List ℕ). image cs x) columns-same ∙ sym (linear-image n g m x b)
-  where
-    columns-same : columns n f ≡ columns n g
-    columns-same =
-        ext-getD 0 (columns n f) (columns n g) (columns-length n f ∙ sym (columns-length n g))
-        (λ j h.
-        let k : j < n = omega (arith, columns-length n f) in columns-at n f j k ∙ same j k ∙ sym (columns-at n g j k))
+    linear-image n f l x b ∙ ap (λ (cs : List ℕ). image cs x) (columns-same n f g same) ∙ sym (linear-image n g m x b)
 
 lt-two-to : (x : ℕ) → x < 2 ^ x
 lt-two-to zero = omega arith

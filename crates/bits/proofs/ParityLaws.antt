@@ -11,16 +11,17 @@
 --   unit-half, unit-low    the half and the lowest bit of 2^(j+1)
 --   dot-unit            dot with 2^j is bit j
 --   by-bits             numbers of k bits with equal bits are equal
-use Prim.Native.Nat.{ℕ, zero, suc, _+_, _/_, _%_, _^_, _<_, _≤_, min}
+--   bit-low, bit-high   the bits of the lower k bits of a number, and of the others
+use Prim.Native.Nat.{ℕ, zero, suc, _+_, _/_, _%_, _^_, _<_, _≤_, min, _-_}
 use mathlib.Core.Path.{_≡_, refl, sym, ap, ap₂, _∙_}
 use mathlib.Core.Logic.{_≢_}
 use native.Mathlib.Decide.{decLe}
 use native.Mathlib.Omega.{arith}
-use native.Mathlib.Nat.{add-mod, pow-suc}
+use native.Mathlib.Nat.{add-mod, pow-suc, mod-lt}
 use lib.Arith.{bin-ind}
 use lib.Bits.{bitXor, bitAnd, and-comm, and-zero-r}
 use lib.Count.{ones, ones-step}
-use lib.Pow.{shr-shr}
+use lib.Pow.{shr-shr, pow-pos, high, mod-pow-add, mod-mod-pow}
 use Rattle.bits.specs.Parity.{bit, parity, dot}
 use Rattle.bits.proofs.XorLaws.{by-halves, odd-add, xor-half, xor-low, and-half, and-low, and-xor}
 
@@ -124,3 +125,14 @@ by-bits (suc k) a b ha hb h =
     (by-bits k (a / 2) (b / 2) (omega (arith, pow-suc 2 k)) (omega (arith, pow-suc 2 k))
     (λ j l. sym (bit-suc j a) ∙ h (suc j) (omega arith) ∙ bit-suc j b))
     (omega (arith, h 0 (omega arith)))
+
+bit-top : (j x : ℕ) → bit j x ≡ x % 2 ^ (1 + j) / 2 ^ j
+bit-top j x = sym (ap (λ (y : ℕ). y / 2 ^ j) (mod-pow-add x 1 j) ∙ high (bit j x) j (mod-lt x (pow-pos j)))
+
+pub bit-low : (j k x : ℕ) → j < k → bit j (x % 2 ^ k) ≡ bit j x
+bit-low j k x h =
+    let above : k ≡ (k - (1 + j)) + (1 + j) = omega arith in
+    bit-top j (x % 2 ^ k) ∙ ap (λ (y : ℕ). y / 2 ^ j) (rw above (mod-mod-pow x (k - (1 + j)) (1 + j))) ∙ sym (bit-top j x)
+
+pub bit-high : (j k x : ℕ) → bit j (x / 2 ^ k) ≡ bit (k + j) x
+bit-high j k x = ap (λ (y : ℕ). y % 2) (shr-shr x k j)

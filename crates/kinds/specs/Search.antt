@@ -3,8 +3,11 @@
 --   someBelow P? n    whether some number below n has P, and the least one that has
 --   found d           the number that such a search found; 0 where there is none
 --   eachBelow P? n    whether every number below n has P
+--   withIf d ps n     the numbers ps, and n after them if what d decides holds
+--   those P? n        the numbers below n that have P, ascending
 use Prim.Native.Nat.{ℕ, zero, suc, _<_}
 use mathlib.Core.Path.{subst, sym}
+use mathlib.Core.List.{List, [], _∷_, _++_}
 use native.Mathlib.Decide.{ℕ-discrete}
 use native.Mathlib.Omega.{arith}
 
@@ -32,3 +35,11 @@ eachBelow {P} P? (suc n) =
       ]
       | no some ↦ no (λ each. some (λ i h. each i (omega arith)))
     ]
+
+abbrev pub withIf : {A : Type 0} → Dec A → List ℕ → ℕ → List ℕ
+withIf (yes a) ps n = ps ++ (n ∷ [])
+withIf (no not) ps n = ps
+
+unfoldable pub those : {P : ℕ → Type 0} → ((i : ℕ) → Dec (P i)) → ℕ → List ℕ
+those P? zero = []
+those P? (suc n) = withIf (P? n) (those P? n) n

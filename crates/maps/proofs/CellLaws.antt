@@ -14,6 +14,7 @@
 --   wiring-part         its port-to-bank part is the wiring
 --   stages-part         its tick-to-bank part is the stages'
 --   stages-made         stages that make up each column of a linear map of tick bits make up the map
+--   tick-unit           2^j is the word of tick 2^(j-k) at port 0
 --   port-column, tick-column    the columns of a side's map, one by one
 --   column-beyond       beyond the nth they would be 0
 --   cell-double         one port bit more: one exclusive or
@@ -118,6 +119,9 @@ selected-beyond b t m (s ∷ ss) each h =
     let even : dot (s .control) (2 ^ m) ≡ 0 = dot-unit m (s .control) ∙ ap (λ (x : ℕ). x % 2) (div-eq-of-lt small) in
     selected-cons s ss (2 ^ m) ∙ rw even (selected-beyond b t m ss (each .1) h)
 
+pub tick-unit : {k j : ℕ} → k ≤ j → wordAt k (2 ^ (j - k)) 0 ≡ 2 ^ j
+tick-unit {k} {j} h = omega (arith, pow-add 2 (j - k) k, ap (λ (x : ℕ). 2 ^ x) (let e : (j - k) + k ≡ j = omega arith in e))
+
 module _ (k : ℕ) (S : Side) where
   pub cell-word : (c p : ℕ) → p < 2 ^ k → cellAt k S c p ≡ cellOf k S (wordAt k c p)
   cell-word c p h = sym (ap₂ (cellAt k S) (high c k h) (low c k h))
@@ -136,9 +140,8 @@ module _ (k : ℕ) (S : Side) where
 
   pub tick-column : (j : ℕ) → k ≤ j → cellOf k S (2 ^ j) ≡ getD (S .addresses) j 0 * 2 ^ k + afterStages (S .stages) (2 ^ (j - k)) 0
   tick-column j h =
-      let above : wordAt k (2 ^ (j - k)) 0 ≡ 2 ^ j = omega (arith, pow-add 2 (j - k) k, ap (λ (x : ℕ). 2 ^ x) (let e : (j - k) + k ≡ j = omega arith in e)) in
-      let tick = ap (tickOf k) (sym above) ∙ high (2 ^ (j - k)) k (pow-pos k) in
-      let port = ap (portOf k) (sym above) ∙ low (2 ^ (j - k)) k (pow-pos k) in
+      let tick = ap (tickOf k) (sym (tick-unit h)) ∙ high (2 ^ (j - k)) k (pow-pos k) in
+      let port = ap (portOf k) (sym (tick-unit h)) ∙ low (2 ^ (j - k)) k (pow-pos k) in
       ap₂ (λ (a b : ℕ). a * 2 ^ k + b) (address-of (2 ^ j) ∙ image-unit (S .addresses) j)
       (ap₂ (bankAt S) tick port ∙ ap (afterStages (S .stages) (2 ^ (j - k))) (image-zero (S .wiring)))
 

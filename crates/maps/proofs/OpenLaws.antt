@@ -1,9 +1,6 @@
 -- An opened side does what the side does that it shows: the zeros after what is used change nothing.
---   padded-at         it shows the numbers of the list, and zeros after them
---   padded-unique     a list of openWidth places that shows the numbers of another is that one, padded
---   padded-used       padding a list or its beginning is the same where the rest is zero
---   flat-part         stages that are read off some places are the first of these places
 --   after-none, after-more    the bank before any stage, and after one stage more
+--   after-lt          stages with numbers of w bits leave a bank of w bits one of w bits
 --   shown-k           an opened side knows k
 --   shown-addresses, shown-wiring    its columns are those of the side
 --   shown-stages      its stages leave the same bank
@@ -12,96 +9,32 @@
 --   closed-shows      what stands for a side of a refused sheet shows one too, so every opened side that can be had shows one
 --   opens-unique      opening a sheet has one answer
 --   lists-unique      the cells of a tick have one answer, and leave one content
-use Prim.Native.Nat.{ℕ, zero, suc, _+_, _-_, _*_, _%_, _^_, _≤_, _<_}
+use Prim.Native.Nat.{ℕ, zero, suc, _+_, _-_, _*_, _/_, _%_, _^_, _≤_, _<_}
 use mathlib.Core.Path.{_≡_, refl, sym, ap, ap₂, _∙_}
 use mathlib.Core.Bool.{Bool}
-use mathlib.Core.List.{List, [], _∷_, _++_, append-assoc}
-use native.Mathlib.Decide.{decLt}
+use mathlib.Core.List.{List, [], _∷_}
 use native.Mathlib.Nat.{mod-eq-of-lt}
 use native.Mathlib.Numerals.{add-one}
 use native.Mathlib.Omega.{arith}
-use lib.Bits.{bitXor, xor-zero-r}
-use lib.ListN.{length, getD, take, drop, replicate, length-take, length-append, length-replicate, List·getD-append, List·getD-eq-default}
+use lib.Bits.{bitXor, xor-zero-r, xor-lt}
+use lib.ListN.{length, getD, List·getD-eq-default}
 use lib.Pow.{pow-mono}
-use lib.Seq.{getD-append-add, take-suc, ext-getD}
 use Rattle.kinds.specs.Edition.{Edition}
 use Rattle.kinds.specs.declared.Answer.{Answer}
 use Rattle.kinds.specs.declared.Answer.the-variants.{Done, Refused}
 use Rattle.kinds.proofs.AnswerLaws.{said-same, checks-unique, answers-same, answers-agree}
 use Rattle.bits.specs.Image.{chosen, image}
 use Rattle.bits.specs.Parity.{dot}
-use Rattle.bits.proofs.ImageLaws.{chosen-zero, same-image}
-use Rattle.sheet.specs.Sheet.{Stage, Side, stageAt, stagesIn}
-use Rattle.sheet.specs.Layout.{AllZero}
+use Rattle.bits.proofs.ImageLaws.{chosen-zero, same-image, chosen-lt}
+use Rattle.sheet.specs.Sheet.{Stage, Side, stageAt, stagesIn, flat}
 use Rattle.sheet.specs.Table.{sheetTable}
 use Rattle.sheet.proofs.StageLaws.{same-stages}
-use Rattle.sheet.proofs.PlaceLaws.{take-same}
+use Rattle.sheet.proofs.LayLaws.{padded-length, padded-at, flat-length, flat-stages}
 use Rattle.maps.specs.Cells.{switched, afterStages, cellAt}
-use Rattle.maps.specs.Opened.{openWidth, openStages, padded, flat, closed, Shows, Opens, IsAddress, IsBank, IsCell, ListsCells}
+use Rattle.maps.specs.Opened.{openWidth, openStages, padded, closed, Shows, Opens, IsAddress, IsBank, IsCell, ListsCells}
 use Rattle.maps.specs.declared.OpenSide.{OpenSide}
 use Rattle.maps.specs.declared.Opened.{Opened}
 use Rattle.maps.proofs.CellLaws.{after-append, cell-lt}
-
-zeros-at : (m j : ℕ) → _≡_ {A = ℕ} (getD (replicate m 0) j 0) 0
-zeros-at zero j = refl
-zeros-at (suc m) zero = refl
-zeros-at (suc m) (suc j) = zeros-at m j
-
-padded-length : (l : List ℕ) → length l ≤ openWidth → length (padded l) ≡ openWidth
-padded-length l h = omega (arith, length-append l (replicate (openWidth - length l) 0), length-replicate {A = ℕ} (openWidth - length l) 0)
-
-pub padded-at : (l : List ℕ) (j : ℕ) → getD (padded l) j 0 ≡ getD l j 0
-padded-at l j = elim (decLt j (length l)) [
-  | yes h ↦ List·getD-append l (replicate (openWidth - length l) 0) 0 j h
-  | no h ↦
-      ap (λ (x : ℕ). getD (padded l) x 0) {x = j} {y = length l + (j - length l)} (omega arith)
-      ∙ getD-append-add l (replicate (openWidth - length l) 0) (j - length l) 0
-      ∙ zeros-at (openWidth - length l) (j - length l)
-      ∙ sym (List·getD-eq-default l 0 (omega arith))
-]
-
-pub padded-unique : (l r : List ℕ) → length l ≤ openWidth → length r ≡ openWidth → ((j : ℕ) → getD r j 0 ≡ getD l j 0) → r ≡ padded l
-padded-unique l r few whole same = ext-getD 0 r (padded l) (whole ∙ sym (padded-length l few)) (λ j h. same j ∙ sym (padded-at l j))
-
-pub padded-used : (m : ℕ) (l : List ℕ) → length l ≤ openWidth → AllZero (drop m l) → padded l ≡ padded (take m l)
-padded-used m l few zeros =
-    padded-unique (take m l) (padded l) (omega (arith, length-take m l)) (padded-length l few) (λ j. padded-at l j ∙ take-same m l zeros j)
-
--- stages as they stand on a sheet
-
-flat-snoc : (ss : List Stage) (s : Stage) → flat (ss ++ (s ∷ [])) ≡ flat ss ++ (s .direction ∷ s .control ∷ [])
-flat-snoc [] s = refl
-flat-snoc (t ∷ ss) s = ap (λ (l : List ℕ). t .direction ∷ t .control ∷ l) (flat-snoc ss s)
-
-pub flat-part : (m : ℕ) (l : List ℕ) → 2 * m ≤ length l → flat (stagesIn m l) ≡ take (2 * m) l
-unfolding stagesIn
-flat-part zero l h = refl
-flat-part (suc m) l h =
-    flat-snoc (stagesIn m l) (stageAt l m)
-    ∙ ap (λ (x : List ℕ). x ++ (getD l (2 * m) 0 ∷ getD l (2 * m + 1) 0 ∷ [])) (flat-part m l (omega arith))
-    ∙ sym (append-assoc (take (2 * m) l) (getD l (2 * m) 0 ∷ []) (getD l (2 * m + 1) 0 ∷ []))
-    ∙ ap (λ (x : List ℕ). x ++ (getD l (2 * m + 1) 0 ∷ [])) (sym (take-suc l (2 * m) 0 (omega arith)))
-    ∙ ap₂ (λ (i j : ℕ). take i l ++ (getD l j 0 ∷ [])) {x = suc (2 * m)} {y = suc (2 * m)} refl (add-one (2 * m))
-    ∙ sym (take-suc l (suc (2 * m)) 0 (omega arith))
-    ∙ ap (λ (x : ℕ). take x l) {x = suc (suc (2 * m))} {y = 2 * suc m} (omega arith)
-
-flat-length : (ss : List Stage) → length (flat ss) ≡ 2 * length ss
-flat-length [] = refl
-flat-length (s ∷ ss) = omega (arith, flat-length ss)
-
-stages-cons : (m d c : ℕ) (l : List ℕ) → stagesIn (suc m) (d ∷ c ∷ l) ≡ record { direction = d; control = c } ∷ stagesIn m l
-unfolding stagesIn
-stages-cons zero d c l = refl
-stages-cons (suc m) d c l =
-    let first : 2 * suc m ≡ suc (suc (2 * m)) = omega arith in
-    let second : 2 * suc m + 1 ≡ suc (suc (2 * m + 1)) = omega arith in
-    ap₂ (λ (ss : List Stage) (s : Stage). ss ++ (s ∷ [])) (stages-cons m d c l)
-    (ap₂ (λ (x y : ℕ). record { direction = getD (d ∷ c ∷ l) x 0; control = getD (d ∷ c ∷ l) y 0 }) first second)
-
-flat-stages : (ss : List Stage) → stagesIn (length ss) (flat ss) ≡ ss
-unfolding stagesIn
-flat-stages [] = refl
-flat-stages (s ∷ ss) = stages-cons (length ss) (s .direction) (s .control) (flat ss) ∙ ap (λ (ts : List Stage). s ∷ ts) (flat-stages ss)
 
 pub after-none : (l : List ℕ) (c b : ℕ) → afterStages (stagesIn 0 l) c b ≡ b
 unfolding afterStages stagesIn
@@ -110,6 +43,12 @@ after-none l c b = refl
 pub after-more : (m : ℕ) (l : List ℕ) (c b : ℕ) → afterStages (stagesIn (m + 1) l) c b ≡ switched (stageAt l m) c (afterStages (stagesIn m l) c b)
 unfolding afterStages stagesIn
 after-more m l c b = rw (add-one m) (after-append (stagesIn m l) (stageAt l m ∷ []) c b)
+
+pub after-lt : (w : ℕ) (l : List ℕ) → ((j : ℕ) → getD l j 0 < 2 ^ w) → (m c b : ℕ) → b < 2 ^ w → afterStages (stagesIn m l) c b < 2 ^ w
+after-lt w l narrow zero c b h = rw (after-none l c b) h
+after-lt w l narrow (suc m) c b h =
+    rw (← add-one m, after-more m l c b)
+    (xor-lt w (afterStages (stagesIn m l) c b) _ (after-lt w l narrow m c b h) (chosen-lt (dot (stageAt l m .control) c) (stageAt l m .direction) w (narrow (2 * m))))
 
 idle : (m : ℕ) (l : List ℕ) (c b : ℕ) → getD l (2 * m) 0 ≡ 0 → switched (stageAt l m) c b ≡ b
 idle m l c b none =
@@ -132,17 +71,19 @@ module _ {n k : ℕ} {o : OpenSide} {S : Side} (h : Shows n k o S) where
   shown-k = ap (λ (q : OpenSide). q .k) (h .is)
 
   pub shown-addresses : (j : ℕ) → getD (o .addresses) j 0 ≡ getD (S .addresses) j 0
-  shown-addresses j = ap (λ (q : OpenSide). getD (q .addresses) j 0) (h .is) ∙ padded-at (S .addresses) j
+  shown-addresses j = ap (λ (q : OpenSide). getD (q .addresses) j 0) (h .is) ∙ padded-at openWidth (S .addresses) j
 
   pub shown-wiring : (j : ℕ) → getD (o .wiring) j 0 ≡ getD (S .wiring) j 0
-  shown-wiring j = ap (λ (q : OpenSide). getD (q .wiring) j 0) (h .is) ∙ padded-at (S .wiring) j
+  shown-wiring j = ap (λ (q : OpenSide). getD (q .wiring) j 0) (h .is) ∙ padded-at openWidth (S .wiring) j
 
-  pub shown-stages : (c b : ℕ) → afterStages (stagesIn openStages (o .stages)) c b ≡ afterStages (S .stages) c b
+  pub shown-stages : (c b : ℕ) → afterStages (stagesIn (length (o .stages) / 2) (o .stages)) c b ≡ afterStages (S .stages) c b
   shown-stages c b =
       let all = flat (S .stages) in
       let m = length (S .stages) in
-      ap (λ (q : OpenSide). afterStages (stagesIn openStages (q .stages)) c b) (h .is)
-      ∙ ap (λ (ss : List Stage). afterStages ss c b) (same-stages openStages (padded all) all (padded-at all))
+      let places : length (padded all) / 2 ≡ openStages = omega (arith, padded-length openWidth all (omega (arith, h .stages, flat-length (S .stages)))) in
+      ap (λ (q : OpenSide). afterStages (stagesIn (length (q .stages) / 2) (q .stages)) c b) (h .is)
+      ∙ ap (λ (s : ℕ). afterStages (stagesIn s (padded all)) c b) places
+      ∙ ap (λ (ss : List Stage). afterStages ss c b) (same-stages openStages (padded all) all (padded-at openWidth all))
       ∙ ap (λ (s : ℕ). afterStages (stagesIn s all) c b) {x = openStages} {y = m + (openStages - m)} (omega (arith, h .stages))
       ∙ idle-stages m (openStages - m) all (omega (arith, flat-length (S .stages))) c b
       ∙ ap (λ (ss : List Stage). afterStages ss c b) (flat-stages (S .stages))
@@ -152,10 +93,10 @@ module _ {n k : ℕ} {o : OpenSide} {S : Side} (h : Shows n k o S) where
       let small : cellAt k S c p < 2 ^ openWidth = omega (arith, cell-lt (h .used) (h .ports) c p, pow-mono (h .words)) in
       ap (λ (x : ℕ). (a * 2 ^ x + b) % 2 ^ openWidth) shown-k ∙ ap (λ (x : ℕ). x % 2 ^ openWidth) e ∙ mod-eq-of-lt small
 
-pub is-bank : (o : OpenSide) (c p : ℕ) {wired r : ℕ} → wired ≡ image (o .wiring) p → r ≡ afterStages (stagesIn openStages (o .stages)) c wired → IsBank o c p r
+pub is-bank : (o : OpenSide) (c p : ℕ) {wired r : ℕ} → wired ≡ image (o .wiring) p → r ≡ afterStages (stagesIn (length (o .stages) / 2) (o .stages)) c wired → IsBank o c p r
 is-bank o c p wired-is e n k S h =
     e
-    ∙ ap (afterStages (stagesIn openStages (o .stages)) c) (wired-is ∙ same-image (o .wiring) (S .wiring) (shown-wiring h) p)
+    ∙ ap (afterStages (stagesIn (length (o .stages) / 2) (o .stages)) c) (wired-is ∙ same-image (o .wiring) (S .wiring) (shown-wiring h) p)
     ∙ shown-stages h c (image (S .wiring) p)
 
 pub is-cell : {o : OpenSide} {a b r : ℕ} (c p : ℕ) → IsAddress o c p a → IsBank o c p b → r ≡ (a * 2 ^ o .k + b) % 2 ^ openWidth → IsCell o c p r

@@ -1,24 +1,39 @@
--- Stages, and the write side's as 01's planner chooses them.
+-- Stages, and a side's as 01's planner chooses them.
 --   stages-rank          what stages make of any map has no greater rank than there are stages
---   kept-stages          stages whose directions are the kept columns of a tick-to-bank part, and whose controls are their sums, have that part
-use Prim.Native.Nat.{ℕ, _^_, _<_, _≤_}
-use mathlib.Core.Path.{_≡_, sym, ap, _∙_}
-use mathlib.Core.List.{List}
-use lib.ListN.{length, getD, length-map}
-use Rattle.bits.specs.Image.{image, columns}
-use Rattle.bits.proofs.ImageLaws.{image-xor, image-unit}
-use Rattle.bits.proofs.ParityLaws.{dot-unit}
+--   kept-count           there are as many stages kept as the rank says
+--   kept-selected        the stages kept of a tick-to-bank part make up that part
+--   side-map             the side that is written for a map has that map
+--   side-few             it has no more stages than k, or than there are tick bits
+--   side-layable         it can be laid out
+use Prim.Native.Nat.{ℕ, suc, _+_, _-_, _*_, _^_, _<_, _≤_, min}
+use mathlib.Core.Path.{_≡_, refl, sym, ap, ap₂, _∙_}
+use mathlib.Core.List.{List, [], _∷_, map, map-map}
+use native.Mathlib.Decide.{decLt}
+use native.Mathlib.Nat.{pos-of-ne-zero, zero-div}
+use native.Mathlib.Omega.{arith}
+use lib.ListN.{length, getD, length-map, List·getD-map}
+use lib.Pow.{pow-pos, pow-lt, le-ones, split}
+use Rattle.kinds.specs.Edition.{Edition}
+use Rattle.kinds.specs.Frame.{tickBits, wordAt, addressOf, bankOf}
+use Rattle.kinds.proofs.FrameLaws.{tick-lt, port-lt}
+use Rattle.bits.specs.Image.{image, columns, AllBelow, Linear}
+use Rattle.bits.specs.Parity.{bit, dot}
+use Rattle.bits.proofs.ImageLaws.{image-xor, image-unit, linear-zero, linear-agree, columns-length, columns-at, columns-below}
+use Rattle.bits.proofs.ParityLaws.{dot-unit, bit-same}
+use Rattle.span.specs.Maps.{Into}
 use Rattle.span.specs.Rows.{dots}
-use Rattle.span.specs.Scan.{keptAt, kept, rank}
-use Rattle.span.proofs.RowLaws.{dots-lt, dots-bit}
-use Rattle.span.proofs.SumLaws.{sum-image}
-use Rattle.span.proofs.RankLaws.{rank-le-length, columns-sum}
+use Rattle.span.specs.Scan.{members, keptAt, kept, rank, units, mask, masks}
+use Rattle.span.proofs.RowLaws.{dots-lt, dots-xor, dots-bit}
+use Rattle.span.proofs.SumLaws.{sum-image, sum-member}
+use Rattle.span.proofs.ScanLaws.{members-at, units-at, keptAt-below, kept-independent}
+use Rattle.span.proofs.MaskLaws.{mask-unique, masks-length, masks-at}
+use Rattle.span.proofs.RankLaws.{rank-le-length, rank-width, rank-positions, columns-sum}
 use Rattle.span.proofs.PositionLaws.{sum-by-bits}
 use Rattle.sheet.specs.Sheet.{Stage, Side}
-use Rattle.sheet.specs.Layout.{InRange}
-use Rattle.maps.specs.Cells.{cellOf, tickToBank}
-use Rattle.maps.specs.Stages.{directions, controls, selected, KeptStages}
-use Rattle.maps.proofs.CellLaws.{stages-part, stages-made}
+use Rattle.sheet.specs.Layout.{StageInRange, EachStage, InRange, Layable}
+use Rattle.maps.specs.Cells.{portToBank, tickToBank, afterStages, cellOf}
+use Rattle.maps.specs.Stages.{directions, controls, selected, keptStages, sideFor}
+use Rattle.maps.proofs.CellLaws.{stages-sum, stages-made, cell-linear, tick-unit, port-column, tick-column}
 
 pub stages-rank : (k : ℕ) (ss : List Stage) (f : ℕ → ℕ) → rank (columns k (λ p. selected ss (f p))) ≤ length ss
 stages-rank k ss f =
@@ -26,21 +41,133 @@ stages-rank k ss f =
     (rank-le-length (columns k (λ p. selected ss (f p))) (directions ss)
     (columns-sum k (λ p. selected ss (f p)) (λ j h. sum-image (directions ss) (dots (controls ss) (f (2 ^ j))))))
 
-as-many : (F : List ℕ) (ss : List Stage) → KeptStages F ss → length ss ≡ length (keptAt F (length F))
-unfolding kept
-as-many F ss k = sym (length-map ss (λ s. s .direction)) ∙ ap length (k .direction) ∙ length-map (keptAt F (length F)) (λ p. getD F p 0)
+each-of : (Q : Stage → Type 0) (stage : ℕ → Stage) (ps : List ℕ) → ((s : ℕ) → s < length ps → Q (stage (getD ps s 0))) → EachStage Q (map stage ps)
+each-of Q stage [] each = tt
+each-of Q stage (p ∷ ps) each = (each 0 (omega arith), each-of Q stage ps (λ s h. each (suc s) (omega arith)))
 
-kept-selected : (F : List ℕ) (ss : List Stage) → KeptStages F ss → (c : ℕ) → c < 2 ^ length F → selected ss c ≡ image F c
-kept-selected F ss k = stages-made ss (length F) (image F) (image-xor F) (λ j h. rw (k .direction) (column j h) ∙ sym (image-unit F j))
-  where
-    all-controls : length (controls ss) ≡ length (keptAt F (length F))
-    all-controls = length-map ss (λ s. s .control) ∙ as-many F ss k
+module _ (F : List ℕ) where
+  abbrev ps : List ℕ
+  ps = keptAt F (length F)
 
-    column : (j : ℕ) → j < length F → image (kept F) (dots (controls ss) (2 ^ j)) ≡ getD F j 0
-    column j h =
-        sum-by-bits F j (dots (controls ss) (2 ^ j)) h (rw all-controls at (dots-lt (controls ss) (2 ^ j)))
-        (λ s l. dots-bit (controls ss) (2 ^ j) s (rw all-controls l) ∙ dot-unit j (getD (controls ss) s 0) ∙ k .control s j (rw (as-many F ss k) l) h)
+  abbrev stage : ℕ → Stage
+  stage p = record { direction = getD F p 0; control = dots (masks F) (2 ^ p) }
 
-pub kept-stages : {n k : ℕ} {S : Side} → InRange n k S → (F : List ℕ) → KeptStages F (S .stages)
-    → (c : ℕ) → c < 2 ^ length F → tickToBank k (cellOf k S) c ≡ image F c
-kept-stages {S = S} used F kept c h = stages-part used c ∙ kept-selected F (S .stages) kept c h
+  stages-are : keptStages F ≡ map stage ps
+  unfolding keptStages
+  stages-are = refl
+
+  stage-count : length (keptStages F) ≡ length ps
+  stage-count = ap length stages-are ∙ length-map ps stage
+
+  pub kept-count : length (keptStages F) ≡ rank F
+  kept-count = stage-count ∙ sym (rank-positions F)
+
+  kept-directions : directions (keptStages F) ≡ kept F
+  unfolding kept
+  kept-directions = ap directions stages-are ∙ map-map (λ s. s .direction) stage ps
+
+  kept-controls : controls (keptStages F) ≡ map (dots (masks F)) (units ps)
+  kept-controls = ap controls stages-are ∙ map-map (λ s. s .control) stage ps ∙ sym (map-map (dots (masks F)) (λ p. 2 ^ p) ps)
+
+  control-count : length (controls (keptStages F)) ≡ length ps
+  control-count = length-map (keptStages F) (λ s. s .control) ∙ stage-count
+
+  control-at : (s : ℕ) → s < length ps → getD (controls (keptStages F)) s 0 ≡ dots (masks F) (2 ^ getD ps s 0)
+  control-at s h =
+      let none = linear-zero (dots (masks F)) (dots-xor (masks F)) in
+      ap₂ (λ (l : List ℕ) (d : ℕ). getD l s d) kept-controls (sym none) ∙ List·getD-map (dots (masks F)) (units ps) s 0 ∙ ap (dots (masks F)) (units-at ps s h)
+
+  control-bit : (p j : ℕ) → j < length F → bit j (dots (masks F) (2 ^ p)) ≡ bit p (mask F j)
+  control-bit p j h =
+      dots-bit (masks F) (2 ^ p) j (rw (masks-length F) h) ∙ ap (λ (m : ℕ). dot m (2 ^ p)) (masks-at F j h) ∙ dot-unit p (mask F j)
+
+  kept-column : (j : ℕ) → j < length F → image (kept F) (dots (controls (keptStages F)) (2 ^ j)) ≡ getD F j 0
+  kept-column j h =
+      let cs = controls (keptStages F) in
+      sum-by-bits F j (dots cs (2 ^ j)) h (rw control-count at (dots-lt cs (2 ^ j)))
+      (λ s l. dots-bit cs (2 ^ j) s (rw control-count l) ∙ dot-unit j (getD cs s 0) ∙ ap (bit j) (control-at s l) ∙ control-bit (getD ps s 0) j h)
+
+  pub kept-selected : (c : ℕ) → c < 2 ^ length F → selected (keptStages F) c ≡ image F c
+  kept-selected = stages-made (keptStages F) (length F) (image F) (image-xor F) (λ j h. rw kept-directions (kept-column j h) ∙ sym (image-unit F j))
+
+  module _ (s : ℕ) (h : s < length ps) where
+    abbrev p : ℕ
+    p = getD ps s 0
+
+    inside : p < length F
+    inside = keptAt-below F (length F) s h
+
+    direction-least : 1 ≤ getD F p 0
+    direction-least = pos-of-ne-zero (λ none.
+        let no-sum = kept-independent F (length F) (2 ^ s) (rw length-map (pow-lt h)) in
+        omega (arith, pow-pos s, no-sum (image-unit (members F ps) s ∙ members-at F ps s h ∙ none)))
+
+    own-mask : mask F p ≡ 2 ^ p
+    own-mask = sym (mask-unique F p inside (rw (units-at ps s h) at (sum-member (units ps) s)) (image-unit F p))
+
+    control-least : 1 ≤ dots (masks F) (2 ^ p)
+    control-least = pos-of-ne-zero (λ none.
+        let odd : bit p 0 ≡ 1 = ap (bit p) (sym none) ∙ control-bit p p inside ∙ ap (bit p) own-mask ∙ bit-same p in
+        omega (arith, zero-div (2 ^ p)))
+
+  kept-range : (k : ℕ) → AllBelow (2 ^ k) F → EachStage (StageInRange (2 ^ k) (2 ^ length F)) (keptStages F)
+  kept-range k below =
+      rw stages-are (each-of (StageInRange (2 ^ k) (2 ^ length F)) stage ps (λ s h. record {
+        direction = record { least = direction-least s h; most = le-ones k (below (getD ps s 0) (inside s h)) };
+        control = record { least = control-least s h; most = le-ones (length F) (rw (masks-length F) at (dots-lt (masks F) (2 ^ getD ps s 0))) };
+      }))
+
+module _ (n k : ℕ) (f : ℕ → ℕ) (within : k ≤ n) (linear : Linear f) (into : Into f (2 ^ n) (2 ^ n)) where
+  abbrev S : Side
+  S = sideFor n k f
+
+  abbrev tick-columns : List ℕ
+  tick-columns = columns (tickBits n k) (tickToBank k f)
+
+  tick-count : length tick-columns ≡ tickBits n k
+  tick-count = columns-length (tickBits n k) (tickToBank k f)
+
+  tick-below : AllBelow (2 ^ k) tick-columns
+  tick-below = columns-below (tickBits n k) (2 ^ k) (tickToBank k f) (λ j h. port-lt k (f (wordAt k (2 ^ j) 0)))
+
+  used : InRange n k S
+  used = record {
+    addresses = columns-below n (2 ^ tickBits n k) (λ i. addressOf k (f i)) (λ j h. tick-lt within (into (2 ^ j) (pow-lt h)));
+    wiring = columns-below k (2 ^ k) (portToBank k f) (λ j h. port-lt k (f (wordAt k 0 (2 ^ j))));
+    stages = rw tick-count at (kept-range tick-columns k tick-below);
+  }
+
+  -- a column is made of its address and its bank
+  joined : (j : ℕ) {b : ℕ} → j < n → b ≡ bankOf k (f (2 ^ j)) → getD (S .addresses) j 0 * 2 ^ k + b ≡ f (2 ^ j)
+  joined j h bank = ap₂ (λ (a b : ℕ). a * 2 ^ k + b) (columns-at n (λ i. addressOf k (f i)) j h) bank ∙ split (f (2 ^ j)) k
+
+  tick-bank : (j : ℕ) → k ≤ j → j < n → afterStages (S .stages) (2 ^ (j - k)) 0 ≡ bankOf k (f (2 ^ j))
+  tick-bank j above h =
+      let bit-of-tick : j - k < tickBits n k = omega arith in
+      stages-sum (S .stages) (2 ^ (j - k)) 0
+      ∙ kept-selected tick-columns (2 ^ (j - k)) (rw tick-count (pow-lt bit-of-tick))
+      ∙ image-unit tick-columns (j - k)
+      ∙ columns-at (tickBits n k) (tickToBank k f) (j - k) bit-of-tick
+      ∙ ap (λ (i : ℕ). bankOf k (f i)) (tick-unit above)
+
+  column : (j : ℕ) → j < n → cellOf k S (2 ^ j) ≡ f (2 ^ j)
+  column j h = elim (decLt j k) [
+    | yes low ↦ port-column k S j low ∙ joined j h (columns-at k (portToBank k f) j low ∙ ap (λ (i : ℕ). bankOf k (f i)) (omega arith))
+    | no high ↦ tick-column k S j (omega arith) ∙ joined j h (tick-bank j (omega arith) h)
+  ]
+
+  pub side-map : (i : ℕ) → i < 2 ^ n → cellOf k (sideFor n k f) i ≡ f i
+  side-map = linear-agree n (cellOf k S) f (cell-linear used) linear column
+
+  pub side-few : length (sideFor n k f .stages) ≤ min k (tickBits n k)
+  side-few =
+      let count : length (S .stages) ≡ rank tick-columns = stage-count tick-columns ∙ sym (rank-positions tick-columns) in
+      omega (arith, rank-width k tick-columns tick-below, rank-le-length tick-columns tick-columns (λ j h. sum-member tick-columns j), tick-count)
+
+  pub side-layable : (e : Edition) → k ≤ e .most-stages → Layable e n k (sideFor n k f)
+  side-layable e room = record {
+    addresses = columns-length n (λ i. addressOf k (f i));
+    wiring = columns-length k (portToBank k f);
+    stages = omega (arith, side-few);
+    used = used;
+  }

@@ -1,7 +1,6 @@
 -- A side of a sheet that was opened: checked once, and then asked as often as one likes.
 --   openWidth, openStages        an opened side has 16 places for columns, of either kind, and 8 for stages
 --   padded l                     the numbers of l, and zeros after them, openWidth in all
---   flat ss                      the numbers of the stages ss, as they stand on a sheet: direction, control, direction, ..
 --   opened k S                   the side S, opened
 --   Shows n k o S                o is the side S, opened: S has n address columns, k wiring columns and at most openStages stages, all in range
 --   closed                       what stands in place of a side where the sheet was refused
@@ -11,11 +10,11 @@
 --   IsCell o c p r               r is its cell
 --   AreColumns o r               r is the columns of that side's map, and zeros after them
 --   ListsCells o c out out' r    all cells of one tick into a lent buffer, which has 2^k places or is refused: done, out' is these, by port; refused, out as it came
-use Prim.Native.Nat.{ℕ, _-_, _^_, _≤_}
+use Prim.Native.Nat.{ℕ, _^_, _≤_}
 use mathlib.Core.Path.{_≡_}
 use mathlib.Core.Bool.{Bool}
-use mathlib.Core.List.{List, [], _∷_, _++_}
-use lib.ListN.{length, replicate}
+use mathlib.Core.List.{List, [], _∷_}
+use lib.ListN.{length}
 use Rattle.kinds.specs.Edition.{Edition}
 use Rattle.kinds.specs.Frame.{inOrder}
 use Rattle.kinds.specs.Refusal.{said}
@@ -24,7 +23,7 @@ use Rattle.kinds.specs.Answers.{Checks, Answers}
 use Rattle.kinds.specs.declared.Answer.{Answer}
 use Rattle.kinds.specs.declared.Answer.the-variants.{Done, Refused}
 use Rattle.kinds.specs.declared.Refusal.{Refusal}
-use Rattle.sheet.specs.Sheet.{Stage, Side, writeSide, readSide}
+use Rattle.sheet.specs.Sheet.{Side, writeSide, readSide, paddedTo, flat}
 use Rattle.sheet.specs.Layout.{InRange}
 use Rattle.sheet.specs.Table.{sheetTable}
 use Rattle.maps.specs.Cells.{addressAt, bankAt, cellAt, cellColumns}
@@ -38,11 +37,7 @@ abbrev pub openStages : ℕ
 openStages = 8
 
 abbrev pub padded : List ℕ → List ℕ
-padded l = l ++ replicate (openWidth - length l) 0
-
-abbrev pub flat : List Stage → List ℕ
-flat [] = []
-flat (s ∷ ss) = s .direction ∷ s .control ∷ flat ss
+padded l = paddedTo openWidth l
 
 abbrev pub opened : ℕ → Side → OpenSide
 opened k S = record { k = k; addresses = padded (S .addresses); wiring = padded (S .wiring); stages = padded (flat (S .stages)) }

@@ -1,17 +1,19 @@
 -- What the stages of a side make of a tick.
 --   directions ss, controls ss      the directions of the stages ss, and their controls
 --   selected ss c                   the sum of the directions whose controls AND c have an odd number of ones
---   KeptStages F ss                 01, 'The planner's choices', of the tick-to-bank part with the columns F: "a stage's direction is a kept column, and bit j of
+--   keptStages F                    01, 'The planner's choices', of the tick-to-bank part with the columns F: "a stage's direction is a kept column, and bit j of
 --                                   its control says whether that column is in the sum for tick bit j"
-use Prim.Native.Nat.{ℕ, _<_}
-use mathlib.Core.Path.{_≡_}
+--   sideFor n k f                   the side that 01's planner writes for the map f of words to cells: "its port-to-bank part is the wiring", and the stages are those kept of
+--                                   its tick-to-bank part
+use Prim.Native.Nat.{ℕ, _^_}
 use mathlib.Core.List.{List, map}
 use lib.ListN.{length, getD}
-use Rattle.bits.specs.Image.{image}
-use Rattle.bits.specs.Parity.{bit}
+use Rattle.kinds.specs.Frame.{tickBits, addressOf}
+use Rattle.bits.specs.Image.{image, columns}
 use Rattle.span.specs.Rows.{dots}
-use Rattle.span.specs.Scan.{keptAt, kept, mask}
-use Rattle.sheet.specs.Sheet.{Stage}
+use Rattle.span.specs.Scan.{keptAt, masks}
+use Rattle.sheet.specs.Sheet.{Stage, Side}
+use Rattle.maps.specs.Cells.{portToBank, tickToBank}
 
 abbrev pub directions : List Stage → List ℕ
 directions ss = map (λ s. s .direction) ss
@@ -22,7 +24,13 @@ controls ss = map (λ s. s .control) ss
 abbrev pub selected : List Stage → ℕ → ℕ
 selected ss c = image (directions ss) (dots (controls ss) c)
 
-pub record KeptStages (F : List ℕ) (ss : List Stage) : Type 0 where
-  pub direction : directions ss ≡ kept F
-  pub control : (s j : ℕ) → s < length ss → j < length F
-      → bit j (getD (controls ss) s 0) ≡ bit (getD (keptAt F (length F)) s 0) (mask F j)
+unfoldable pub keptStages : List ℕ → List Stage
+unfolding keptAt masks dots
+keptStages F = map (λ p. record { direction = getD F p 0; control = dots (masks F) (2 ^ p) }) (keptAt F (length F))
+
+abbrev pub sideFor : ℕ → ℕ → (ℕ → ℕ) → Side
+sideFor n k f = record {
+  addresses = columns n (λ i. addressOf k (f i));
+  wiring = columns k (portToBank k f);
+  stages = keptStages (columns (tickBits n k) (tickToBank k f));
+}

@@ -1,12 +1,12 @@
 // The two maps of a sheet: which cell each word has, on the write side and on the read side.
 ghost use mathlib.Core.Path.{_≡_};
-ghost use Prim.Native.Nat.{_+_, _*_, _%_, _^_, _≤_};
+ghost use Prim.Native.Nat.{_+_, _*_, _/_, _%_, _^_, _≤_};
 ghost use lib.ListN.{length, getD};
 ghost use Rattle.kinds.specs.Edition.{edition1, sidePlaces};
 ghost use Rattle.kinds.specs.Frame.{wordAt};
 ghost use Rattle.sheet.specs.Sheet.{stagesIn};
 ghost use Rattle.maps.specs.Cells.{afterStages};
-ghost use Rattle.maps.specs.Opened.{openWidth, openStages, padded as paddedOf, Opens, IsAddress, IsBank, IsCell, AreColumns, ListsCells};
+ghost use Rattle.maps.specs.Opened.{openWidth, padded as paddedOf, Opens, IsAddress, IsBank, IsCell, AreColumns, ListsCells};
 ghost use Rattle.maps.specs.Inside.{OpensSide, IsColumn, Doubled};
 use kinds::Addr;
 use kinds::Answer;
@@ -178,14 +178,13 @@ impl OpenSide {
     }
 }
 
-// Each stage xors its direction into the bank if its control AND the tick has an odd number of ones.
-fn after_stages(stages: &[u16], tick: Tick, bank: Bank) -> Bank
-    requires { ⌜ length (now stages) ≡ openWidth ⌝ }
-    ensures { λ r. ⌜ r .0 ≡ afterStages (stagesIn openStages (now (stages .entry))) (tick .0) (bank .0) ⌝ }
+// Each stage xors its direction into the bank if its control AND the tick has an odd number of ones. Lent are the numbers of the stages, as they stand on a sheet.
+pub fn after_stages(stages: &[u16], tick: Tick, bank: Bank) -> Bank
+    ensures { λ r. ⌜ r .0 ≡ afterStages (stagesIn (length (now (stages .entry)) / 2) (now (stages .entry))) (tick .0) (bank .0) ⌝ }
 {
     let mut b = bank.0;
     let mut s = 0;
-    while s < sheet::MOST_STAGES {
+    while s < stages.len() / 2 {
         let direction = stages[2 * s] as u32;
         let control = stages[2 * s + 1] as u32;
         if bits::parity(control & tick.0) == 1 {

@@ -1,4 +1,5 @@
 -- How few read stages a sheet that passes can have (001, Theorem 4.1).
+--   port-part       the bank part of M = N P at tick 0
 --   read-stages     with P1 of rank r there are at least k - r
 use Prim.Native.Nat.{ℕ, _+_, _^_, _<_, _≤_}
 use mathlib.Core.Path.{_≡_, sym, ap, _∙_}
@@ -34,8 +35,7 @@ module _ (n k : ℕ) (W R : Side) (C : List ℕ) (within : k ≤ n) (write : InR
   abbrev wires : ℕ → ℕ
   wires p = image (R .wiring) (P1 k C p)
 
-  -- the bank part of M = N P at tick 0
-  port-part : (p : ℕ) → p < 2 ^ k → image (W .wiring) p ≡ bitXor (stages p) (wires p)
+  pub port-part : (p : ℕ) → p < 2 ^ k → image (W .wiring) p ≡ bitXor (stages p) (wires p)
   port-part p h =
       sym (wiring-part write p h)
       ∙ ap (bankOf k) (places (wordAt k 0 p) (omega (arith, pow-mono within)))

@@ -7,6 +7,7 @@
 --   AllZero l             every place of l is zero
 --   FormedSide e n k l    a side with the places l keeps the layout: the stages are few enough, what is used is in range, and "unused places are zero"
 --   WellFormed e n k s    both sides of the sheet s do
+--   Layable e n k S       the side S can be laid out: n address columns, k wiring columns and no more stages than there are places for, all in range
 --   fromTo?, stageInRange?, eachStage?, inRange?, allZero?, formedSide?, wellFormed?      whether each of these is so
 use Prim.Native.Nat.{ℕ, _-_, _*_, _^_, _<_, _≤_}
 use mathlib.Core.Path.{_≡_}
@@ -50,6 +51,12 @@ pub record FormedSide (e : Edition) (n k : ℕ) (l : List ℕ) : Type 0 where
 pub record WellFormed (e : Edition) (n k : ℕ) (s : List ℕ) : Type 0 where
   pub write : FormedSide e n k (writePlaces e s)
   pub read : FormedSide e n k (readPlaces e s)
+
+pub record Layable (e : Edition) (n k : ℕ) (S : Side) : Type 0 where
+  pub addresses : length (S .addresses) ≡ n
+  pub wiring : length (S .wiring) ≡ k
+  pub stages : length (S .stages) ≤ e .most-stages
+  pub used : InRange n k S
 
 unfoldable pub fromTo? : (a b x : ℕ) → Dec (FromTo a b x)
 unfolding decLe

@@ -7,9 +7,14 @@
 --   sideOf e n k l        the side whose places are l: n address columns, k wiring columns, and as many stages as the count says
 --   writePlaces e s, readPlaces e s          the places of the write side ("the first 32") and of the read side ("the last 32") of the sheet s
 --   writeSide e n k s, readSide e n k s      the two sides
-use Prim.Native.Nat.{ℕ, zero, suc, _+_, _*_}
+-- And whoever writes one writes it so:
+--   paddedTo m l          the numbers of l, and zeros after them, m in all
+--   flat ss               the numbers of the stages ss, as they stand on a sheet: direction, control, direction, ..
+--   laidOut e S           all places of a side that says S. "Unused places are zero"
+--   sheetOf e W R         the sheet with the write side W and the read side R
+use Prim.Native.Nat.{ℕ, zero, suc, _+_, _-_, _*_}
 use mathlib.Core.List.{List, [], _∷_, _++_}
-use lib.ListN.{take, drop, getD}
+use lib.ListN.{length, take, drop, getD, replicate}
 use Rattle.kinds.specs.Edition.{Edition, sidePlaces}
 
 pub record Stage : Type 0 where
@@ -58,3 +63,18 @@ writeSide e n k s = sideOf e n k (writePlaces e s)
 
 abbrev pub readSide : Edition → ℕ → ℕ → List ℕ → Side
 readSide e n k s = sideOf e n k (readPlaces e s)
+
+abbrev pub paddedTo : ℕ → List ℕ → List ℕ
+paddedTo m l = l ++ replicate (m - length l) 0
+
+abbrev pub flat : List Stage → List ℕ
+flat [] = []
+flat (s ∷ ss) = s .direction ∷ s .control ∷ flat ss
+
+abbrev pub laidOut : Edition → Side → List ℕ
+laidOut e S =
+    paddedTo (e .most-n) (S .addresses) ++ (paddedTo (e .most-k) (S .wiring)
+    ++ (length (S .stages) ∷ paddedTo (2 * e .most-stages + e .left-over) (flat (S .stages))))
+
+abbrev pub sheetOf : Edition → Side → Side → List ℕ
+sheetOf e W R = laidOut e W ++ laidOut e R

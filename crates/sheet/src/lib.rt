@@ -21,7 +21,7 @@ pub const MOST_STAGES: usize = 8;
 
 pub const SIDE: usize = STAGES + 2 * MOST_STAGES;
 
-const SHEET: usize = 2 * SIDE;
+pub const SHEET: usize = 2 * SIDE;
 
 // 1, 2 and 5. `fits` says whether every other length that the tool was lent is right.
 pub fn check(n: u32, k: u32, sheet: &[u16], fits: bool) -> Answer

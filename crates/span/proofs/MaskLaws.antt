@@ -2,23 +2,26 @@
 --   image-over               a mask over some positions selects the members there
 --   over-below               a mask over positions below i has i bits
 --   mask-kept, mask-before   a kept number is its own mask; any other's selects positions before it
+--   mask-says                so the mask of number i says whether it is kept: it is 2^i at least
 --   mask-sum                 each scanned number is the sum that its mask says
 --   mask-over                its mask selects kept positions, at or before it
 --   mask-unique              it is the only mask over kept positions that does
 --   dependent-at             a number that is not kept shows that the list is dependent
-use Prim.Native.Nat.{ℕ, suc, _^_, _<_}
+--   masks-length, masks-at   the masks of a list, one for each of its numbers
+use Prim.Native.Nat.{ℕ, suc, _^_, _≤_, _<_}
 use mathlib.Core.Path.{_≡_, refl, sym, ap, ap₂, _∙_}
 use mathlib.Core.List.{List, [], _∷_, map, map-append}
-use mathlib.Core.Logic.{⊎-elim}
+use mathlib.Core.Logic.{⊎-elim, _↔_}
 use native.Mathlib.Omega.{arith}
 use lib.Bits.{bitXor, xor-self, xor-lt}
 use lib.ListN.{length, getD, length-map}
 use lib.Pow.{pow-lt}
+use Rattle.kinds.proofs.FrameLaws.{in-order-length, in-order-at}
 use Rattle.bits.specs.Image.{image, AllBelow}
 use Rattle.bits.proofs.XorLaws.{xor-zero-eq}
 use Rattle.bits.proofs.ImageLaws.{image-unit, image-image, image-lt, image-xor}
 use Rattle.span.specs.Sums.{SumOf, sumOf?, Independent}
-use Rattle.span.specs.Scan.{members, keptAt, SumBefore, IsKept, units, over, maskBy, mask}
+use Rattle.span.specs.Scan.{members, keptAt, SumBefore, IsKept, units, over, maskBy, mask, masks}
 use Rattle.span.proofs.SumLaws.{sum-image, sum-member, sum-right, independent-injective}
 use Rattle.span.proofs.ScanLaws.{units-at, kept-or-sum, keptAt-old, keptAt-new, keptAt-below, keptAt-more, kept-independent}
 
@@ -54,6 +57,9 @@ module _ (vs : List ℕ) (i : ℕ) where
   pub mask-before : SumBefore vs i → mask vs i < 2 ^ i
   mask-before t = let m = mask-of-sum t in rw (m .1) (over-below i (keptAt vs i) (keptAt-below vs i) (m .0 .selected))
 
+  pub mask-says : IsKept vs i ↔ (2 ^ i ≤ mask vs i)
+  mask-says = (λ k. omega (arith, mask-kept k), λ h s. omega (arith, mask-before s))
+
   pub mask-sum : image vs (mask vs i) ≡ getD vs i 0
   mask-sum = ⊎-elim
       (λ k. ap (image vs) (mask-kept k) ∙ image-unit vs i)
@@ -88,3 +94,12 @@ module _ (vs : List ℕ) (i : ℕ) where
       let none : image vs (bitXor (mask vs i) (2 ^ i)) ≡ 0 = image-xor vs (mask vs i) (2 ^ i) ∙ ap₂ bitXor mask-sum (image-unit vs i) ∙ xor-self (getD vs i 0) in
       let small = xor-lt (length vs) (mask vs i) (2 ^ i) (omega (arith, low, up)) up in
       omega (arith, low, xor-zero-eq (mask vs i) (2 ^ i) (ind (bitXor (mask vs i) (2 ^ i)) small none))
+
+module _ (vs : List ℕ) where
+  pub masks-length : length (masks vs) ≡ length vs
+  unfolding masks
+  masks-length = in-order-length (length vs) (mask vs)
+
+  pub masks-at : (i : ℕ) → i < length vs → getD (masks vs) i 0 ≡ mask vs i
+  unfolding masks
+  masks-at = in-order-at (length vs) (mask vs) 0

@@ -1,21 +1,28 @@
 -- Kept positions, and masks read bit by bit over them.
+--   over-none          a mask over some positions has no bit at any other
+--   units-none         where the units of positions make 0 of x, its bits there are 0
+--   those-independent  2^i, for the numbers i that have something, are independent
 --   sum-by-bits        the kept numbers whose positions are in the mask of number j have number j as their sum
 use Prim.Native.Nat.{ℕ, zero, suc, _^_, _<_}
 use mathlib.Core.Path.{_≡_, sym, ap, _∙_}
-use mathlib.Core.List.{List}
+use mathlib.Core.List.{List, [], _∷_, map-append}
 use mathlib.Core.Logic.{_≢_}
 use native.Mathlib.Decide.{ℕ-discrete, decLt}
 use native.Mathlib.Omega.{arith}
 use lib.ListN.{length, getD, length-map}
 use lib.Pow.{pow-lt}
+use Rattle.kinds.specs.Search.{withIf, those}
+use Rattle.kinds.proofs.SearchLaws.{those-at}
 use Rattle.bits.specs.Image.{image}
 use Rattle.bits.specs.Parity.{bit, dot}
-use Rattle.bits.proofs.ParityLaws.{dot-unit, bit-same, bit-other, by-bits}
+use Rattle.bits.proofs.ParityLaws.{dot-unit, bit-same, bit-other, by-bits, dot-comm, dot-zero}
 use Rattle.span.specs.Rows.{dots}
 use Rattle.span.specs.Scan.{keptAt, kept, units, over, mask}
-use Rattle.span.proofs.RowLaws.{dots-lt, dots-bit, dot-image}
+use Rattle.span.specs.Sums.{Independent}
+use Rattle.span.proofs.RowLaws.{dots-lt, dots-bit, dot-image, dots-none, dots-cons}
 use Rattle.span.proofs.ScanLaws.{units-at, keptAt-ascending, keptAt-more}
-use Rattle.span.proofs.MaskLaws.{image-over, mask-sum, mask-over}
+use Rattle.span.proofs.MaskLaws.{image-over, mask-sum, mask-over, over-below}
+use Rattle.span.proofs.SumLaws.{independent-nil, independent-snoc}
 
 module _ (vs : List ℕ) (i : ℕ) where
   abbrev ps : List ℕ
@@ -55,6 +62,32 @@ module _ (vs : List ℕ) (i : ℕ) where
   over-bit : (s y : ℕ) → s < length ps → bit (getD ps s 0) (over ps y) ≡ bit s y
   over-bit s y h =
       sym (dot-unit (getD ps s 0) (over ps y)) ∙ dot-image (units ps) y (2 ^ getD ps s 0) ∙ ap (dot y) (units-dual s h) ∙ dot-unit s y
+
+pub over-none : (ps : List ℕ) (i y : ℕ) → ((l : ℕ) → l < length ps → i ≢ getD ps l 0) → bit i (over ps y) ≡ 0
+over-none ps i y none =
+    sym (dot-unit i (over ps y)) ∙ dot-image (units ps) y (2 ^ i) ∙ ap (dot y) (dots-none (units ps) (2 ^ i) apart) ∙ dot-zero y
+  where
+    apart : (l : ℕ) → l < length (units ps) → dot (getD (units ps) l 0) (2 ^ i) ≡ 0
+    apart l h =
+        let k : l < length ps = rw length-map at h in
+        dot-unit i (getD (units ps) l 0) ∙ ap (bit i) (units-at ps l k) ∙ bit-other i (getD ps l 0) (none l k)
+
+pub units-none : (ps : List ℕ) (x : ℕ) → dots (units ps) x ≡ 0 → (l : ℕ) → l < length ps → bit (getD ps l 0) x ≡ 0
+units-none [] x e l h = absurd (omega arith)
+units-none (p ∷ ps) x e zero h = sym (dot-unit p x) ∙ dot-comm x (2 ^ p) ∙ omega (arith, dots-cons (2 ^ p) (units ps) x)
+units-none (p ∷ ps) x e (suc l) h = units-none ps x (omega (arith, dots-cons (2 ^ p) (units ps) x)) l (omega arith)
+
+pub those-independent : {P : ℕ → Type 0} (P? : (i : ℕ) → Dec (P i)) (n : ℕ) → Independent (units (those P? n))
+unfolding those
+those-independent P? zero = independent-nil
+those-independent {P} P? (suc n) = go (P? n) (those-independent P? n)
+  where
+    go : (d : Dec (P n)) → Independent (units (those P? n)) → Independent (units (withIf d (those P? n) n))
+    go (no not) rest = rest
+    go (yes p) rest =
+        rw (map-append (λ (i : ℕ). 2 ^ i) (those P? n) (n ∷ []))
+        (independent-snoc (units (those P? n)) (2 ^ n) rest
+        (λ s. omega (arith, over-below n (those P? n) (λ l h. those-at P? n l h .0) (s .selected), s .sum)))
 
 pub sum-by-bits : (vs : List ℕ) (j x : ℕ) → j < length vs → x < 2 ^ length (keptAt vs (length vs))
     → ((s : ℕ) → s < length (keptAt vs (length vs)) → bit s x ≡ bit (getD (keptAt vs (length vs)) s 0) (mask vs j)) → image (kept vs) x ≡ getD vs j 0

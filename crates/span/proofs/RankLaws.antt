@@ -4,6 +4,7 @@
 --   rank-le, rank-span   a smaller span has no greater rank; the same span has the same
 --   rank-width           numbers of k bits have rank at most k
 --   rank-positions       the rank is the number of kept positions
+--   others-count         with the others they are all
 --   independent-rank, rank-independent    the rank is the length exactly when the list is independent
 --   independent-all-kept, all-kept-independent    the scan keeps all exactly when the list is independent
 --   columns-sum          the columns of a map are sums where its values at 1, 2, 4, .. are
@@ -20,13 +21,14 @@ use lib.Bits.{bitXor}
 use lib.Pow.{pow-lt}
 use lib.ListN.{length, getD, length-map, length-append}
 use Rattle.bits.specs.Image.{image, AllBelow, Linear, columns}
-use Rattle.bits.proofs.ImageLaws.{image-zero, linear-map, linear-image, columns-length, columns-at}
+use Rattle.bits.proofs.ImageLaws.{image-zero, linear-image, columns-length, columns-at}
+use Rattle.kinds.proofs.SearchLaws.{those-count}
 use Rattle.span.specs.Maps.{Injective, Bijection}
 use Rattle.span.specs.Sums.{SumOf, Independent}
-use Rattle.span.specs.Scan.{members, keptAt, IsKept, kept, rank, units, over}
+use Rattle.span.specs.Scan.{members, keptAt, IsKept, kept, rank, others, sumBefore?, units, over}
 use Rattle.span.proofs.Counting.{injective-onto, bijection-same}
-use Rattle.span.proofs.SumLaws.{length-snoc, sum-image, sum-member, sum-xor, sum-left, sum-right, span-trans, independent-le, independent-width, independent-injective, bijection-independent}
-use Rattle.span.proofs.ScanLaws.{members-at, keptAt-new, kept-independent, keptAt-below, scanned-sum}
+use Rattle.span.proofs.SumLaws.{length-snoc, sum-image, sum-member, sum-xor, sum-left, sum-right, sum-map, span-trans, independent-le, independent-width, independent-injective, bijection-independent}
+use Rattle.span.proofs.ScanLaws.{members-at, kept-those, keptAt-new, kept-independent, keptAt-below, scanned-sum}
 use Rattle.span.proofs.MaskLaws.{image-over, over-below, dependent-at}
 
 pub kept-all-independent : (vs : List ℕ) → Independent (kept vs)
@@ -91,6 +93,10 @@ pub rank-positions : (vs : List ℕ) → rank vs ≡ length (keptAt vs (length v
 unfolding rank kept
 rank-positions vs = length-map (keptAt vs (length vs)) (λ p. getD vs p 0)
 
+pub others-count : (vs : List ℕ) → rank vs + length (others vs) ≡ length vs
+unfolding others
+others-count vs = omega (arith, rank-positions vs, ap length (kept-those vs (length vs)), those-count (sumBefore? vs) (length vs))
+
 pub independent-all-kept : (vs : List ℕ) → Independent vs → (i : ℕ) → i < length vs → IsKept vs i
 independent-all-kept vs ind i h s = dependent-at vs i h s ind
 
@@ -136,12 +142,7 @@ unfolding rank
 rank-after-inner n f g linear =
     rw (← length-map (kept (columns n f)) g)
     (rank-le-length (columns n (λ x. g (f x))) (map g (kept (columns n f)))
-    (columns-sum n (λ x. g (f x)) (λ j h. image-of (value-sum n f j h))))
-  where
-    image-of : {v : ℕ} → SumOf (kept (columns n f)) v → SumOf (map g (kept (columns n f))) (g v)
-    image-of s =
-        rw (sym (linear-map g linear (kept (columns n f)) (s .selected)) ∙ ap g (s .sum)) at
-        (sum-image (map g (kept (columns n f))) (s .selected))
+    (columns-sum n (λ x. g (f x)) (λ j h. sum-map g linear (value-sum n f j h))))
 
 pub rank-after-outer : (n m : ℕ) (f g : ℕ → ℕ) → Linear g → ((j : ℕ) → j < n → f (2 ^ j) < 2 ^ m)
     → rank (columns n (λ x. g (f x))) ≤ rank (columns m g)

@@ -4,6 +4,8 @@
 --   dots-lt        what l rows make has l bits
 --   dots-xor       rows make a linear map
 --   dots-bit       bit l of what the rows make of x is the dot of row l and x
+--   dots-none      the rows make 0 of what has dot 0 with each
+--   vanish-append  where two lists of rows make 0 of x, each does
 --   dot-image        the dot of a sum of rows and x is the dot of the selection and what the rows make of x
 --   dot-same       two numbers of k bits that have the same dot with each number of k bits are equal
 --   rows-length    there are m rows
@@ -15,7 +17,7 @@
 --   rows-rows      the rows of the rows are the columns
 use Prim.Native.Nat.{ℕ, zero, suc, _+_, _*_, _/_, _%_, _^_, _<_, min}
 use mathlib.Core.Path.{_≡_, refl, sym, ap, ap₂, _∙_}
-use mathlib.Core.List.{List, [], _∷_}
+use mathlib.Core.List.{List, [], _∷_, _++_}
 use mathlib.Core.Logic.{⊎-elim}
 use native.Mathlib.Omega.{arith}
 use native.Mathlib.Nat.{pow-suc}
@@ -60,6 +62,16 @@ pub dots-bit : (rs : List ℕ) (x l : ℕ) → l < length rs → bit l (dots rs 
 dots-bit [] x l h = absurd (omega arith)
 dots-bit (r ∷ rs) x zero h = omega (arith, dots-low r rs x)
 dots-bit (r ∷ rs) x (suc l) h = bit-suc l (dots (r ∷ rs) x) ∙ ap (bit l) (dots-half r rs x) ∙ dots-bit rs x l (omega arith)
+
+pub dots-none : (rs : List ℕ) (x : ℕ) → ((l : ℕ) → l < length rs → dot (getD rs l 0) x ≡ 0) → dots rs x ≡ 0
+dots-none [] x h = dots-nil x
+dots-none (r ∷ rs) x h = omega (arith, dots-cons r rs x, h 0 (omega arith), dots-none rs x (λ l k. h (suc l) (omega arith)))
+
+pub vanish-append : (rs ss : List ℕ) (x : ℕ) → dots (rs ++ ss) x ≡ 0 → (dots rs x ≡ 0) × (dots ss x ≡ 0)
+vanish-append [] ss x e = (dots-nil x, e)
+vanish-append (r ∷ rs) ss x e =
+    let rest = vanish-append rs ss x (omega (arith, dots-cons r (rs ++ ss) x)) in
+    (omega (arith, dots-cons r (rs ++ ss) x, dots-cons r rs x, rest .0), rest .1)
 
 chosen-dot : (s r x : ℕ) → dot (chosen (s % 2) r) x ≡ min (s % 2) (dot r x)
 chosen-dot s r x =

@@ -2,32 +2,34 @@
 --   factored           where each row is a sum of ks, what the rows make of x is what some rows make of what ks makes of x
 --   vanish-span        where each row is a sum of ks, what vanishes on ks vanishes on the rows
 --   vanish-kept        a number vanishes on the kept rows exactly when it vanishes on all
+--   vanish-at-kept     what the rows make of x is 0 if its bits at the kept positions are
 --   functional-rows    what vanishes wherever all rows do is a sum of the rows, independent or not
 --   rank-full          if only 0 vanishes on all rows, of k bits each, their rank is k
 --   rank-le-rows       the rank of columns is at most that of their rows
 --   rank-rows          the rank of the rows is the rank of the columns
 --   image-factor       an image goes by way of the kept rows: it is a sum of as many independent columns, chosen by what those rows make of x
 use Prim.Native.Nat.{ℕ, suc, _^_, _≤_, _<_}
-use mathlib.Core.Path.{_≡_, sym, _∙_}
+use mathlib.Core.Path.{_≡_, sym, _∙_, ap}
 use mathlib.Core.List.{List, [], _∷_}
 use mathlib.Core.Logic.{_↔_}
 use native.Mathlib.Omega.{arith}
 use native.Mathlib.Nat.{le-antisymm, le-trans, le-of-eq}
 use lib.Bits.{bitXor, xor-self, xor-lt}
-use lib.ListN.{length, getD}
+use lib.ListN.{length, getD, length-map}
 use Rattle.bits.specs.Image.{image, AllBelow, columns}
-use Rattle.bits.specs.Parity.{dot}
+use Rattle.bits.specs.Parity.{dot, bit}
 use Rattle.bits.proofs.XorLaws.{xor-zero-eq}
 use Rattle.bits.proofs.ImageLaws.{image-unit, linear-zero, linear-image, columns-length}
 use Rattle.span.specs.Maps.{Injective}
 use Rattle.span.specs.Sums.{SumOf, Independent}
-use Rattle.span.specs.Scan.{kept, rank}
+use Rattle.span.specs.Scan.{kept, rank, keptAt}
 use Rattle.span.specs.Rows.{dots, rows}
 use Rattle.span.proofs.Counting.{injective-width}
 use Rattle.span.proofs.SumLaws.{sum-image, sum-member, span-trans}
 use Rattle.span.proofs.RankLaws.{kept-all-independent, kept-sum, kept-member, kept-all-below, rank-le-length, rank-le, rank-width, rank-independent}
-use Rattle.span.proofs.RowLaws.{dots-nil, dots-cons, dots-lt, dots-xor, dot-image, rows-below, rows-image, rows-rows}
+use Rattle.span.proofs.RowLaws.{dots-nil, dots-cons, dots-lt, dots-xor, dot-image, rows-below, rows-image, rows-rows, dots-none, dots-bit}
 use Rattle.span.proofs.DualLaws.{functional-sum}
+use Rattle.span.proofs.ScanLaws.{members-at, keptAt-below}
 
 pub factored : (rs ks : List ℕ) → ((j : ℕ) → j < length rs → SumOf ks (getD rs j 0))
     → (ms : List ℕ) × ((x : ℕ) → dots rs x ≡ dots ms (dots ks x))
@@ -42,6 +44,17 @@ vanish-span rs ks sums x e = let m = factored rs ks sums in m .1 x ∙ rw e (lin
 
 pub vanish-kept : (rs : List ℕ) (x : ℕ) → dots (kept rs) x ≡ 0 ↔ dots rs x ≡ 0
 vanish-kept rs x = (vanish-span rs (kept rs) (kept-sum rs) x, vanish-span (kept rs) rs (kept-member rs) x)
+
+pub vanish-at-kept : (rs : List ℕ) (x : ℕ) → ((l : ℕ) → l < length (keptAt rs (length rs)) → bit (getD (keptAt rs (length rs)) l 0) (dots rs x) ≡ 0)
+    → dots rs x ≡ 0
+unfolding kept
+vanish-at-kept rs x none =
+    let ps = keptAt rs (length rs) in
+    vanish-kept rs x .0
+    (dots-none (kept rs) x
+    (λ l h.
+    let k : l < length ps = rw length-map at h in
+    ap (λ (r : ℕ). dot r x) (members-at rs ps l k) ∙ sym (dots-bit rs x (getD ps l 0) (keptAt-below rs (length rs) l k)) ∙ none l k))
 
 pub functional-rows : (k : ℕ) (rs : List ℕ) → AllBelow (2 ^ k) rs → (f : ℕ) → f < 2 ^ k
     → ((x : ℕ) → x < 2 ^ k → dots rs x ≡ 0 → dot f x ≡ 0) → SumOf rs f

@@ -1,30 +1,36 @@
 -- The scan, for any list: what is kept.
+--   map-at                   the value at a place of a list of values
 --   members-at, units-at     the member and the unit at a place of a list of positions
 --   kept-or-sum              each number is kept, or is a sum of those kept before it
+--   kept-those               the positions kept are those of the numbers that are no sum of those kept before
 --   keptAt-old, keptAt-new   a sum adds no position; any other number adds its own
 --   keptAt-below             the positions kept among the first i are below i
 --   keptAt-ascending         they ascend
---   kept-independent         the numbers kept are independent
+--   kept-apart               no position is both kept and not
+--   keptAt-longer            later no fewer are kept
 --   keptAt-more              a sum over the positions kept is one over those kept later: of members, and of units
+--   kept-independent         the numbers kept are independent
 --   scanned-sum              each scanned number is a sum of those kept at or before it
 --   span-earlier             the sums of those kept are the sums of all scanned so far
 --   IsKept-earlier           so a number is kept exactly when it is no sum of earlier ones
 --   members-prefix, keptAt-prefix, IsKept-prefix, mask-prefix    the scan of a list's beginning is the beginning of its scan
 use Prim.Native.Nat.{ℕ, zero, suc, _^_, _≤_, _<_}
-use mathlib.Core.Path.{_≡_, refl, ap, ap₂, _∙_}
-use mathlib.Core.List.{List, [], _∷_, _++_, map, map-append}
-use mathlib.Core.Logic.{_⊎_, inl, inr, ⊎-elim, _↔_}
-use native.Mathlib.Decide.{le-ind, decLt}
+use mathlib.Core.Path.{_≡_, refl, sym, ap, ap₂, _∙_}
+use mathlib.Core.List.{List, [], _∷_, _++_, map, map-append, append-nil, append-assoc}
+use mathlib.Core.Logic.{_⊎_, inl, inr, ⊎-elim, _↔_, _≢_}
+use native.Mathlib.Decide.{le-ind}
 use native.Mathlib.Omega.{arith}
 use lib.ListN.{length, getD, take, length-map, length-take, length-append, List·getD-append}
-use lib.Seq.{getD-take, getD-append-seam}
+use lib.Seq.{getD-take}
+use Rattle.kinds.specs.Decided.{opposite}
+use Rattle.kinds.specs.Search.{withIf, those}
+use Rattle.kinds.proofs.SearchLaws.{those-new, those-old, those-at, those-ascending}
 use Rattle.bits.specs.Image.{AllBelow}
-use Rattle.bits.proofs.ImageLaws.{below-append, below-one}
 use Rattle.span.specs.Sums.{SumOf, sumOf?, Independent}
-use Rattle.span.specs.Scan.{members, withNext, keptAt, SumBefore, IsKept, units, maskBy, mask}
+use Rattle.span.specs.Scan.{members, keptAt, SumBefore, sumBefore?, IsKept, units, maskBy, mask, others}
 use Rattle.span.proofs.SumLaws.{sum-member, sum-left, sum-right, span-trans, independent-nil, independent-snoc}
 
-map-at : (f : ℕ → ℕ) (ps : List ℕ) (l : ℕ) → l < length ps → getD (map f ps) l 0 ≡ f (getD ps l 0)
+pub map-at : (f : ℕ → ℕ) (ps : List ℕ) (l : ℕ) → l < length ps → getD (map f ps) l 0 ≡ f (getD ps l 0)
 map-at f [] l h = absurd (omega arith)
 map-at f (p ∷ ps) zero h = refl
 map-at f (p ∷ ps) (suc l) h = map-at f ps l (omega arith)
@@ -37,79 +43,65 @@ units-at = map-at (λ p. 2 ^ p)
 
 -- ---- one step of the scan
 
-decision : (vs : List ℕ) (i : ℕ) → Dec (SumBefore vs i)
-decision vs i = sumOf? (members vs (keptAt vs i)) (getD vs i 0)
-
 pub kept-or-sum : (vs : List ℕ) (i : ℕ) → IsKept vs i ⊎ SumBefore vs i
-kept-or-sum vs i = elim (decision vs i) [ yes s ↦ inr s | no k ↦ inl k ]
+kept-or-sum vs i = elim (sumBefore? vs i) [ yes s ↦ inr s | no k ↦ inl k ]
 
-next : (vs : List ℕ) (i : ℕ) → keptAt vs (suc i) ≡ withNext (decision vs i) (keptAt vs i) i
-unfolding keptAt decision
-next vs i = refl
+module _ (vs : List ℕ) where
+  abbrev isKept? : (i : ℕ) → Dec (IsKept vs i)
+  isKept? i = opposite (sumBefore? vs i)
 
-pub keptAt-old : (vs : List ℕ) (i : ℕ) → SumBefore vs i → keptAt vs (suc i) ≡ keptAt vs i
-keptAt-old vs i s = next vs i ∙ go (decision vs i)
+  pub kept-those : (i : ℕ) → keptAt vs i ≡ those (λ j. opposite (sumBefore? vs j)) i
+  unfolding keptAt those
+  kept-those zero = refl
+  kept-those (suc i) = ap (λ (ps : List ℕ). withIf (isKept? i) ps i) (kept-those i)
+
+  pub keptAt-old : (i : ℕ) → SumBefore vs i → keptAt vs (suc i) ≡ keptAt vs i
+  keptAt-old i s = kept-those (suc i) ∙ those-old isKept? i (λ k. k s) ∙ sym (kept-those i)
+
+  pub keptAt-new : (i : ℕ) → IsKept vs i → keptAt vs (suc i) ≡ keptAt vs i ++ (i ∷ [])
+  keptAt-new i k = rw (kept-those i) (kept-those (suc i) ∙ those-new isKept? i k)
+
+  pub keptAt-below : (i : ℕ) → AllBelow i (keptAt vs i)
+  keptAt-below i = rw (kept-those i) (λ l h. those-at isKept? i l h .0)
+
+  pub keptAt-ascending : (i l : ℕ) → suc l < length (keptAt vs i) → getD (keptAt vs i) l 0 < getD (keptAt vs i) (suc l) 0
+  keptAt-ascending i = rw (kept-those i) (those-ascending isKept? i)
+
+  -- what is kept later comes after
+  later : {i k : ℕ} → i ≤ k → (ps : List ℕ) × (keptAt vs k ≡ keptAt vs i ++ ps)
+  later {i} {k} h = le-ind (λ (k : ℕ). (ps : List ℕ) × (keptAt vs k ≡ keptAt vs i ++ ps)) ([], sym (append-nil (keptAt vs i)))
+      (λ k l (ps, e). ⊎-elim
+      (λ new. (ps ++ (k ∷ []), keptAt-new k new ∙ rw e (append-assoc (keptAt vs i) ps (k ∷ []))))
+      (λ old. (ps, keptAt-old k old ∙ e))
+      (kept-or-sum vs k))
+      k h
+
+  pub keptAt-longer : {i j : ℕ} → i ≤ j → length (keptAt vs i) ≤ length (keptAt vs j)
+  keptAt-longer {i} h = let (ps, e) = later h in rw (e, length-append) (omega arith)
+
+  pub keptAt-more : (f : ℕ → ℕ) {i k : ℕ} → i ≤ k → {v : ℕ} → SumOf (map f (keptAt vs i)) v → SumOf (map f (keptAt vs k)) v
+  keptAt-more f {i} h s = let (ps, e) = later h in rw (e, map-append f (keptAt vs i) ps) (sum-left (map f ps) s)
+
+pub kept-apart : (vs : List ℕ) (l m : ℕ) → l < length (keptAt vs (length vs)) → m < length (others vs)
+    → getD (keptAt vs (length vs)) l 0 ≢ getD (others vs) m 0
+unfolding others
+kept-apart vs l m h g same = is-kept l h (rw same (those-at (sumBefore? vs) (length vs) m g .1))
   where
-    go : (d : Dec (SumBefore vs i)) → withNext d (keptAt vs i) i ≡ keptAt vs i
-    go (yes t) = refl
-    go (no k) = absurd (k s)
-
-pub keptAt-new : (vs : List ℕ) (i : ℕ) → IsKept vs i → keptAt vs (suc i) ≡ keptAt vs i ++ (i ∷ [])
-keptAt-new vs i k = next vs i ∙ go (decision vs i)
-  where
-    go : (d : Dec (SumBefore vs i)) → withNext d (keptAt vs i) i ≡ keptAt vs i ++ (i ∷ [])
-    go (yes s) = absurd (k s)
-    go (no n) = refl
+    is-kept : (l : ℕ) → l < length (keptAt vs (length vs)) → IsKept vs (getD (keptAt vs (length vs)) l 0)
+    is-kept = rw (kept-those vs (length vs)) (λ l h. those-at (λ j. opposite (sumBefore? vs j)) (length vs) l h .1)
 
 grown : (vs ps : List ℕ) (i : ℕ) → members vs (ps ++ (i ∷ [])) ≡ members vs ps ++ (getD vs i 0 ∷ [])
 grown vs ps i = map-append (λ p. getD vs p 0) ps (i ∷ [])
 
--- what holds of no position, and stays when one is added that is kept, holds of the positions kept
-by-steps : (vs : List ℕ) (P : ℕ → List ℕ → Type 0) → P 0 [] → ((i : ℕ) → P i (keptAt vs i) → P (suc i) (keptAt vs i))
-    → ((i : ℕ) → IsKept vs i → P i (keptAt vs i) → P (suc i) (keptAt vs i ++ (i ∷ []))) → (i : ℕ) → P i (keptAt vs i)
-unfolding keptAt
-by-steps vs P start old new zero = start
-by-steps vs P start old new (suc i) = go (by-steps vs P start old new i) (sumOf? (members vs (keptAt vs i)) (getD vs i 0))
-  where
-    go : P i (keptAt vs i) → (d : Dec (SumBefore vs i)) → P (suc i) (withNext d (keptAt vs i) i)
-    go p (yes s) = old i p
-    go p (no k) = new i k p
-
 pub kept-independent : (vs : List ℕ) (i : ℕ) → Independent (members vs (keptAt vs i))
-kept-independent vs =
-    by-steps vs (λ i ps. Independent (members vs ps)) independent-nil (λ i ind. ind)
-    (λ i k ind. rw (grown vs (keptAt vs i) i) (independent-snoc (members vs (keptAt vs i)) (getD vs i 0) ind k))
-
-pub keptAt-below : (vs : List ℕ) (i : ℕ) → AllBelow i (keptAt vs i)
-keptAt-below vs =
-    by-steps vs (λ i ps. AllBelow i ps) (λ l h. absurd (omega arith)) (λ i b l h. omega (arith, b l h))
-    (λ i k b. below-append (suc i) (keptAt vs i) (i ∷ []) (λ l h. omega (arith, b l h)) (below-one (suc i) i (omega arith)))
-
-pub keptAt-ascending : (vs : List ℕ) (i l : ℕ) → suc l < length (keptAt vs i) → getD (keptAt vs i) l 0 < getD (keptAt vs i) (suc l) 0
-keptAt-ascending vs =
-    by-steps vs (λ i ps. Ascends ps) (λ l h. absurd (omega arith)) (λ i up. up)
-    (λ i k up. ascends-snoc (keptAt vs i) i (keptAt-below vs i) up)
-  where
-    Ascends : List ℕ → Type 0
-    Ascends ps = (l : ℕ) → suc l < length ps → getD ps l 0 < getD ps (suc l) 0
-
-    ascends-snoc : (ps : List ℕ) (i : ℕ) → AllBelow i ps → Ascends ps → Ascends (ps ++ (i ∷ []))
-    ascends-snoc ps i b up l h =
-        let inside : l < length ps = omega (arith, length-append ps (i ∷ [])) in
-        rw (List·getD-append ps (i ∷ []) 0 l inside)
-        (elim (decLt (suc l) (length ps)) [
-          | yes k ↦ rw (List·getD-append ps (i ∷ []) 0 (suc l) k) (up l k)
-          | no k ↦ let last : suc l ≡ length ps = omega arith in rw (last, getD-append-seam ps i [] 0) (b l inside)
-        ])
-
-pub keptAt-more : (vs : List ℕ) (f : ℕ → ℕ) {i k : ℕ} → i ≤ k → {v : ℕ} → SumOf (map f (keptAt vs i)) v → SumOf (map f (keptAt vs k)) v
-keptAt-more vs f {i} {k} h {v} s = le-ind (λ (k : ℕ). SumOf (map f (keptAt vs k)) v) s (λ k l. step k) k h
-  where
-    step : (k : ℕ) → SumOf (map f (keptAt vs k)) v → SumOf (map f (keptAt vs (suc k))) v
-    step k t = ⊎-elim
-        (λ new. rw (keptAt-new vs k new, map-append f (keptAt vs k) (k ∷ [])) (sum-left (f k ∷ []) t))
-        (λ old. rw (keptAt-old vs k old) t)
-        (kept-or-sum vs k)
+unfolding keptAt
+kept-independent vs zero = independent-nil
+kept-independent vs (suc i) = ⊎-elim
+    (λ new.
+    rw (keptAt-new vs i new, grown vs (keptAt vs i) i)
+    (independent-snoc (members vs (keptAt vs i)) (getD vs i 0) (kept-independent vs i) new))
+    (λ old. rw (keptAt-old vs i old) (kept-independent vs i))
+    (kept-or-sum vs i)
 
 pub scanned-sum : (vs : List ℕ) {j i : ℕ} → j < i → SumOf (members vs (keptAt vs i)) (getD vs j 0)
 scanned-sum vs {j} h = keptAt-more vs (λ p. getD vs p 0) h (⊎-elim
@@ -155,8 +147,8 @@ module _ (vs ws : List ℕ) where
   keptAt-prefix (suc i) h =
       let same = keptAt-prefix i (omega arith) in
       let step = same-step h same in
-      ap (λ (ps : List ℕ). withNext (sumOf? (members (vs ++ ws) (keptAt (vs ++ ws) i)) (getD (vs ++ ws) i 0)) ps i) same
-      ∙ ap₂ (λ (cs : List ℕ) (v : ℕ). withNext (sumOf? cs v) (keptAt vs i) i) (step .0) (step .1)
+      ap (λ (ps : List ℕ). withIf (opposite (sumOf? (members (vs ++ ws) (keptAt (vs ++ ws) i)) (getD (vs ++ ws) i 0))) ps i) same
+      ∙ ap₂ (λ (cs : List ℕ) (v : ℕ). withIf (opposite (sumOf? cs v)) (keptAt vs i) i) (step .0) (step .1)
 
   pub IsKept-prefix : (i : ℕ) → i < length vs → IsKept (vs ++ ws) i ↔ IsKept vs i
   IsKept-prefix i h =

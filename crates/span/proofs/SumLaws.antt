@@ -5,6 +5,7 @@
 --   sum-member          each member is a sum
 --   sum-trans, span-trans    sums of sums are sums
 --   sum-left, sum-right      sums of a part are sums of the whole
+--   sum-map             a linear map takes sums to sums of the values
 --   independent-injective, injective-independent    independent: no two masks select one sum
 --   sum-snoc            a sum of a list with v added is a sum of the list, or one with v taken away
 --   sum-append          a sum of two lists together is a sum of each
@@ -17,7 +18,7 @@
 --   independent-bijection, bijection-independent    n columns of n bits are independent exactly when their image is a bijection
 use Prim.Native.Nat.{ℕ, zero, suc, _+_, _*_, _/_, _%_, _^_, _≤_, _<_}
 use mathlib.Core.Path.{_≡_, sym, ap, _∙_}
-use mathlib.Core.List.{List, [], _∷_, _++_}
+use mathlib.Core.List.{List, [], _∷_, _++_, map}
 use mathlib.Core.Logic.{_⊎_, inl, inr, ⊎-elim}
 use native.Mathlib.Decide.{decLt}
 use native.Mathlib.Omega.{arith}
@@ -28,9 +29,9 @@ use lib.Bits.{bitXor, xor-self, xor-lt}
 use lib.ListN.{length, getD, length-append, List·getD-append}
 use lib.Pow.{pow-pos, pow-mono}
 use lib.Seq.{getD-append-add}
-use Rattle.bits.specs.Image.{image, AllBelow, chosen}
+use Rattle.bits.specs.Image.{image, AllBelow, Linear, chosen}
 use Rattle.bits.proofs.XorLaws.{xor-cancel-right, xor-zero-eq}
-use Rattle.bits.proofs.ImageLaws.{image-zero, image-xor, image-unit, image-mod, image-append, image-prefix, image-lt, image-cons, image-nil, image-snoc}
+use Rattle.bits.proofs.ImageLaws.{image-zero, image-xor, image-unit, image-mod, image-append, image-prefix, image-lt, image-cons, image-nil, image-snoc, linear-map}
 use Rattle.span.specs.Maps.{Injective, Bijection}
 use Rattle.span.specs.Sums.{SumOf, Independent}
 use Rattle.span.proofs.Counting.{injective-width, onto-width, injective-bijection}
@@ -67,6 +68,9 @@ sum-left {cs} ds = span-trans {cs = cs} (λ j h. rw (List·getD-append cs ds 0 j
 
 pub sum-right : (cs : List ℕ) {ds : List ℕ} {v : ℕ} → SumOf ds v → SumOf (cs ++ ds) v
 sum-right cs {ds} = span-trans {cs = ds} (λ j h. rw (getD-append-add cs ds j 0) at (sum-member (cs ++ ds) (length cs + j)))
+
+pub sum-map : (f : ℕ → ℕ) → Linear f → {cs : List ℕ} {v : ℕ} → SumOf cs v → SumOf (map f cs) (f v)
+sum-map f linear {cs} s = rw (sym (linear-map f linear cs (s .selected)) ∙ ap f (s .sum)) at (sum-image (map f cs) (s .selected))
 
 pub sum-append : (cs ds : List ℕ) {v : ℕ} → SumOf (cs ++ ds) v → (w u : ℕ) × SumOf cs w × SumOf ds u × (bitXor w u ≡ v)
 sum-append cs ds s =

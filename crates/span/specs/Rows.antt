@@ -1,10 +1,11 @@
 -- A map by its rows (01: "row r of a part is bit r of its result").
 --   dots R x        the number whose bit l says whether row l of R AND x has an odd number of ones: what the rows R make of x
 --   rows m C        the m rows of the map with columns C: bit j of row i is bit i of column j
+--   takenOn Z R     the rows R, taken only on the numbers Z: bit l of each says what that row makes of number l of Z
 --   Duals k R       dual vectors of the rows R, of k bits each: row l AND vector j has an odd number of ones exactly when l is j
 use Prim.Native.Nat.{ℕ, _+_, _*_, _^_, _<_}
 use mathlib.Core.Path.{_≡_}
-use mathlib.Core.List.{List, [], _∷_}
+use mathlib.Core.List.{List, [], _∷_, map}
 use lib.ListN.{length, getD}
 use Rattle.bits.specs.Image.{AllBelow, columns}
 use Rattle.bits.specs.Parity.{dot}
@@ -16,6 +17,9 @@ dots (r ∷ rs) x = dot r x + 2 * dots rs x
 unfoldable pub rows : ℕ → List ℕ → List ℕ
 unfolding columns dots
 rows m cs = columns m (dots cs)
+
+abbrev pub takenOn : List ℕ → List ℕ → List ℕ
+takenOn Z rs = map (dots Z) rs
 
 pub record Duals (k : ℕ) (rs : List ℕ) : Type 0 where
   pub vectors : List ℕ

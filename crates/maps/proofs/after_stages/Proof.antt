@@ -1,5 +1,5 @@
 -- `maps::after_stages` meets its contract. The invariant: b is the bank after the first s stages.
-use Prim.Native.Nat.{ℕ, _+_, _-_, _≤_, _<_}
+use Prim.Native.Nat.{ℕ, _+_, _-_, _/_, _≤_, _<_}
 use mathlib.Core.Path.{_≡_, sym, ap, _∙_}
 use mathlib.Core.List.{List}
 use mathlib.Core.Logic.{⊎-elim}
@@ -12,19 +12,17 @@ use Rattle.bits.specs.Parity.{parity, dot}
 use Rattle.bits.proofs.ParityLaws.{dot-lt}
 use Rattle.sheet.specs.Sheet.{stageAt, stagesIn}
 use Rattle.maps.specs.Cells.{switched, afterStages}
-use Rattle.maps.specs.Opened.{openWidth, openStages}
 use Rattle.maps.proofs.OpenLaws.{after-none, after-more}
 use Rattle.maps.proofs.after_stages.Statement.{statement}
 use Rattle.maps.proofs.after_stages.Tie as tie
 
 record Switching (l : List ℕ) (c b₀ b s : ℕ) : Type 0 where
-  room : length l ≡ openWidth
-  within : s ≤ openStages
+  within : s ≤ length l / 2
   bank : b ≡ afterStages (stagesIn s l) c b₀
 
-module _ {l : List ℕ} {c b₀ b s : ℕ} (next : ℕ) (i : Switching l c b₀ b s) (h : s < openStages) where
+module _ {l : List ℕ} {c b₀ b s : ℕ} (next : ℕ) (i : Switching l c b₀ b s) (h : s < length l / 2) where
   more : next ≡ switched (stageAt l s) c b → Switching l c b₀ next (s + 1)
-  more e = record { room = i .room; within = omega arith; bank = e ∙ ap (switched (stageAt l s) c) (i .bank) ∙ sym (after-more s l c b₀) }
+  more e = record { within = omega arith; bank = e ∙ ap (switched (stageAt l s) c) (i .bank) ∙ sym (after-more s l c b₀) }
 
   more-odd : parity (bitAnd (stageAt l s .control) c) ≡ 1 → next ≡ bitXor b (stageAt l s .direction) → Switching l c b₀ next (s + 1)
   unfolding dot
@@ -36,17 +34,17 @@ module _ {l : List ℕ} {c b₀ b s : ℕ} (next : ℕ) (i : Switching l c b₀ 
       let even : dot (stageAt l s .control) c ≡ 0 = omega (arith, dot-lt (stageAt l s .control) c) in
       more (rw even (e ∙ sym (xor-zero-r b)))
 
-done : {l : List ℕ} {c b₀ b s : ℕ} → Switching l c b₀ b s → openStages ≤ s → b ≡ afterStages (stagesIn openStages l) c b₀
+done : {l : List ℕ} {c b₀ b s : ℕ} → Switching l c b₀ b s → length l / 2 ≤ s → b ≡ afterStages (stagesIn (length l / 2) l) c b₀
 done {l} {c} {b₀} i end = i .bank ∙ ap (λ (s : ℕ). afterStages (stagesIn s l) c b₀) (omega arith)
 
 abbrev Inv-loop : tie.InvT-loop
 Inv-loop stages tick b₀ s₀ b s = Switching stages (tick .0) b₀ b s
 
 abbrev μ-loop : tie.MeasureT-loop
-μ-loop stages tick b₀ s₀ b s = openStages - s
+μ-loop stages tick b₀ s₀ b s = length stages / 2 - s
 
 loop-holds : tie.Need-loop-holds Inv-loop μ-loop
-loop-holds c = record { room = c .before .pre; within = omega arith; bank = sym (after-none _ _ _) }
+loop-holds c = record { within = omega arith; bank = sym (after-none _ _ _) }
 
 mul-direction : tie.Need-mul-direction Inv-loop μ-loop
 mul-direction c = search needs
@@ -55,7 +53,7 @@ mul-direction-2 : tie.Need-mul-direction-2 Inv-loop μ-loop
 mul-direction-2 c = search needs
 
 shared-slice-read-direction : tie.Need-shared-slice-read-direction Inv-loop μ-loop
-shared-slice-read-direction c = omega (arith, c .before .before .loop .inv .room)
+shared-slice-read-direction c = search needs
 
 cast-direction : tie.Need-cast-direction Inv-loop μ-loop
 cast-direction c = fits-widen tt (c .shared-slice-known2 .given _)
@@ -70,7 +68,7 @@ mul-control-2 : tie.Need-mul-control-2 Inv-loop μ-loop
 mul-control-2 c = search needs
 
 shared-slice-read-control : tie.Need-shared-slice-read-control Inv-loop μ-loop
-shared-slice-read-control c = omega (arith, c .before .before .before .loop .inv .room)
+shared-slice-read-control c = search needs
 
 cast-control : tie.Need-cast-control Inv-loop μ-loop
 cast-control c = fits-widen tt (c .shared-slice-known3 .given _)

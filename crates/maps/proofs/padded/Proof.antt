@@ -8,8 +8,8 @@ use borrow.Author.Count.{below-none, below-more}
 use borrow.Author.Needs.{needs}
 use lib.ListN.{length, getD, set, replicate, length-set, length-replicate, List·getD-eq-default}
 use lib.Seq.{getD-set-same, getD-set-other}
+use Rattle.sheet.proofs.LayLaws.{padded-unique}
 use Rattle.maps.specs.Opened.{openWidth, padded}
-use Rattle.maps.proofs.OpenLaws.{padded-unique}
 use Rattle.maps.proofs.padded.Statement.{statement}
 use Rattle.maps.proofs.padded.Tie as tie
 
@@ -32,7 +32,7 @@ module _ {part numbers : List ℕ} {j : ℕ} (i : Copied part numbers j) where
   }
 
   done : openWidth ≤ j → numbers ≡ padded part
-  done end = padded-unique part numbers (i .few) (i .whole) (λ l. elim (decLt l j) [
+  done end = padded-unique openWidth part numbers (i .few) (i .whole) (λ l. elim (decLt l j) [
     | yes h ↦ i .front l h
     | no h ↦ List·getD-eq-default numbers 0 (omega (arith, i .whole)) ∙ sym (List·getD-eq-default part 0 (omega (arith, i .few)))
   ])

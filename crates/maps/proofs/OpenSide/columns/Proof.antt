@@ -10,12 +10,12 @@ use lib.ListN.{length, getD, set, replicate, length-set, length-replicate, List�
 use lib.Seq.{getD-set-same, getD-set-other}
 use Rattle.bits.proofs.ImageLaws.{columns-length, columns-at}
 use Rattle.sheet.specs.Sheet.{Side}
+use Rattle.sheet.proofs.LayLaws.{padded-unique}
 use Rattle.maps.specs.Cells.{cellOf, cellColumns}
 use Rattle.maps.specs.Opened.{openWidth, Shows, AreColumns}
 use Rattle.maps.specs.Inside.{IsColumn}
 use Rattle.maps.specs.declared.OpenSide.{OpenSide}
 use Rattle.maps.proofs.CellLaws.{column-beyond}
-use Rattle.maps.proofs.OpenLaws.{padded-unique}
 use Rattle.maps.proofs.OpenSide.columns.Statement.{statement}
 use Rattle.maps.proofs.OpenSide.columns.Tie as tie
 
@@ -36,7 +36,7 @@ module _ {o : OpenSide} {r : List ℕ} {j : ℕ} (i : Filling o r j) where
   }
 
   done : openWidth ≤ j → AreColumns o r
-  done end n k S h = padded-unique C r (omega (arith, count, h .words)) (i .whole) (λ l. place l (decLt l n) (decLt l openWidth))
+  done end n k S h = padded-unique openWidth C r (omega (arith, count, h .words)) (i .whole) (λ l. place l (decLt l n) (decLt l openWidth))
     where
       C : List ℕ
       C = cellColumns n k S

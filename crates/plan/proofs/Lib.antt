@@ -1,0 +1,9 @@
+-- Laws of the planned sheet.
+pub mod PairLaws
+pub mod ChoiceLaws
+pub mod WiringLaws
+pub mod PlannedLaws
+pub mod FillLaws
+pub mod ListedLaws
+pub mod DrawnLaws
+pub mod Cases

@@ -1,0 +1,176 @@
+-- `plan::list_rows` meets its contract. The invariant: what is listed of the positions from a to i - 1 stands in the array.
+use Prim.Native.Nat.{ℕ, suc, _+_, _-_, _^_, _≤_, _<_}
+use mathlib.Core.Path.{_≡_, refl, sym, ap₂, _∙_}
+use mathlib.Core.Bool.{Bool, true, false, Bool·beq, Bool-discrete}
+use mathlib.Core.List.{List, [], _∷_, _++_, map-append}
+use mathlib.Core.Logic.{⊎-elim}
+use native.Mathlib.Omega.{arith}
+use borrow.Author.Needs.{needs}
+use lib.Dec.{leb}
+use lib.ListN.{length, getD, set, replicate, length-append, length-map}
+use lib.Pow.{pow-lt}
+use Rattle.kinds.specs.Answers.{Says}
+use Rattle.kinds.specs.Search.{those}
+use Rattle.kinds.proofs.SearchLaws.{those-new, those-old}
+use Rattle.kinds.proofs.TruthLaws.{false≢true, says-no, says-yes, denied}
+use Rattle.span.specs.Scan.{units as unitsAt}
+use Rattle.sheet.proofs.LayLaws.{padded-snoc}
+use Rattle.maps.specs.Opened.{openWidth, padded}
+use Rattle.plan.specs.Inside.{keptIn, listed, unitsOf, Within}
+use Rattle.plan.specs.declared.Listed.{Listed}
+use Rattle.plan.proofs.list_rows.Statement.{statement}
+use Rattle.plan.proofs.list_rows.Tie as tie
+
+equal-says : (b c : Bool) → Says (Bool·beq b c) (b ≡ c)
+equal-says true true = says-yes refl
+equal-says true false = says-no (λ e. false≢true (sym e))
+equal-says false true = says-no false≢true
+equal-says false false = says-yes refl
+
+module _ (ms : List ℕ) (a : ℕ) (kept : Bool) where
+  listed-none : listed ms a a kept ≡ []
+  unfolding listed those
+  listed-none = let none : a - a ≡ 0 = omega arith in rw none
+
+  module _ {i : ℕ} (from : a ≤ i) where
+    next : i + 1 - a ≡ suc (i - a)
+    next = omega arith
+
+    back : a + (i - a) ≡ i
+    back = omega arith
+
+    listed-new : keptIn ms i ≡ kept → listed ms a (i + 1) kept ≡ listed ms a i kept ++ ((i - a) ∷ [])
+    unfolding listed
+    listed-new e = rw next (those-new (λ j. Bool-discrete (keptIn ms (a + j)) kept) (i - a) (rw back e))
+
+    listed-old : ¬ (keptIn ms i ≡ kept) → listed ms a (i + 1) kept ≡ listed ms a i kept
+    unfolding listed
+    listed-old n = rw next (those-old (λ j. Bool-discrete (keptIn ms (a + j)) kept) (i - a) (rw back n))
+
+record Listing (ms : List ℕ) (a b : ℕ) (kept : Bool) (units : List ℕ) (count i : ℕ) : Type 0 where
+  within : Within a b ms
+  from : a ≤ i
+  to : i ≤ b
+  few : count ≤ i - a
+  counted : count ≡ length (listed ms a i kept)
+  front : units ≡ padded (unitsAt (listed ms a i kept))
+
+start : {ms : List ℕ} {a b : ℕ} (kept : Bool) → Within a b ms → Listing ms a b kept (replicate openWidth 0) 0 a
+start {ms} {a} kept within =
+    let none = listed-none ms a kept in
+    record { within = within; from = omega arith; to = within .from; few = omega arith; counted = rw none; front = rw none }
+
+module _ {ms : List ℕ} {a b : ℕ} {kept : Bool} {units : List ℕ} {count i : ℕ} (l : Listing ms a b kept units count i) where
+  says : {power : ℕ} → power ≡ 2 ^ i → Says (Bool·beq (leb power (getD ms i 0)) kept) (keptIn ms i ≡ kept)
+  says e = rw e (equal-says (keptIn ms i) kept)
+
+  module _ (h : i < b) {more : List ℕ} {m : ℕ} where
+    step : m ≤ count + 1 → m ≡ length (listed ms a (i + 1) kept) → more ≡ padded (unitsAt (listed ms a (i + 1) kept)) → Listing ms a b kept more m (i + 1)
+    step most counted front = record { within = l .within; from = omega arith; to = omega arith; few = omega arith; counted = counted; front = front }
+
+    add : {unit : ℕ} → keptIn ms i ≡ kept → unit ≡ 2 ^ (i - a) → more ≡ set units count unit → m ≡ count + 1 → Listing ms a b kept more m (i + 1)
+    add {unit} e u es c =
+        let ps = listed ms a i kept in
+        let new = listed-new ms a kept (l .from) e in
+        let here : count ≡ length (unitsAt ps) = l .counted ∙ sym (length-map ps (λ p. 2 ^ p)) in
+        step (omega arith) (rw new (omega (arith, length-append ps ((i - a) ∷ []))))
+        (es
+        ∙ ap₂ (λ (ns : List ℕ) (j : ℕ). set ns j unit) (l .front) here
+        ∙ padded-snoc openWidth (unitsAt ps) unit (omega arith)
+        ∙ rw (new, map-append (λ p. 2 ^ p) ps ((i - a) ∷ []), u))
+
+    pass : ¬ (keptIn ms i ≡ kept) → more ≡ units → m ≡ count → Listing ms a b kept more m (i + 1)
+    pass n es c = let old = listed-old ms a kept (l .from) n in step (omega arith) (c ∙ rw old (l .counted)) (es ∙ rw old (l .front))
+
+  done : b ≤ i → _≡_ {A = Listed} (record { units = units; count = count }) (unitsOf (listed ms a b kept))
+  done end =
+      let last : b ≡ i = omega arith in
+      rw last (ap₂ (λ (us : List ℕ) (m : ℕ). record { units = us; count = m }) (l .front) (l .counted))
+
+abbrev Inv-loop : tie.InvT-loop
+Inv-loop masks a b kept units₀ count₀ i₀ units count i = Listing masks a b kept units count i
+
+abbrev μ-loop : tie.MeasureT-loop
+μ-loop masks a b kept units₀ count₀ i₀ units count i = b - i
+
+loop-holds : tie.Need-loop-holds Inv-loop μ-loop
+loop-holds c = start _ (c .before .pre)
+
+cast-two-to : tie.Need-cast-two-to Inv-loop μ-loop
+cast-two-to c = search needs
+
+two-to-requires : tie.Need-two-to-requires Inv-loop μ-loop
+two-to-requires c κs = search needs
+
+mul-was-kept : tie.Need-mul-was-kept Inv-loop μ-loop
+mul-was-kept c = search needs
+
+shared-slice-read-was-kept : tie.Need-shared-slice-read-was-kept Inv-loop μ-loop
+shared-slice-read-was-kept c = search needs
+
+cast-was-kept : tie.Need-cast-was-kept Inv-loop μ-loop
+cast-was-kept c = omega (arith, c .shared-slice-known2 .given (c .before .before .before .loop .i))
+
+sub-two-to : tie.Need-sub-two-to Inv-loop μ-loop
+sub-two-to c = search needs
+
+cast-two-to-2 : tie.Need-cast-two-to-2 Inv-loop μ-loop
+cast-two-to-2 c = search needs
+
+two-to-requires-2 : tie.Need-two-to-requires-2 Inv-loop μ-loop
+two-to-requires-2 c κs = search needs
+
+cast-units : tie.Need-cast-units Inv-loop μ-loop
+cast-units c =
+    let here = c .before .before .before .before .before in
+    omega (arith, c .two-to2 .ensures .fits (omega arith), pow-lt {i = here .loop .i - here .before .before .args .a} {j = 16} (omega arith))
+
+mul-units : tie.Need-mul-units Inv-loop μ-loop
+mul-units c = search needs
+
+array-write-units : tie.Need-array-write-units Inv-loop μ-loop
+array-write-units c = search needs
+
+add-count : tie.Need-add-count Inv-loop μ-loop
+add-count c = search needs
+
+add-i : tie.Need-add-i Inv-loop μ-loop
+add-i c = search needs
+
+loop-less : tie.Need-loop-less Inv-loop μ-loop
+loop-less c = search needs
+
+loop-again : tie.Need-loop-again Inv-loop μ-loop
+loop-again c =
+    let inv = c .before .before .before .before .loop .inv in
+    let h = c .before .before .before .loop-test .taken in
+    let test = says inv (c .before .before .two-to .ensures .fits (omega arith)) in
+    ⊎-elim (λ w. add inv h (test .0 (w .0 .taken)) (w .1 .ensures .fits (omega arith)) (w .2) (w .3)) (λ w. pass inv h (denied test (w .0 .left)) (w .1) (w .2))
+    (c .if1 .came)
+
+returns : tie.Need-returns Inv-loop μ-loop
+returns c = done (c .before .loop .inv) (c .loop-test .left)
+
+pub list-rows-spec : {M : Type 1} → statement M
+list-rows-spec =
+    tie.close
+    (tie.spec
+    Inv-loop
+    μ-loop
+    loop-holds
+    cast-two-to
+    two-to-requires
+    mul-was-kept
+    shared-slice-read-was-kept
+    cast-was-kept
+    sub-two-to
+    cast-two-to-2
+    two-to-requires-2
+    cast-units
+    mul-units
+    array-write-units
+    add-count
+    add-i
+    loop-less
+    loop-again
+    returns)

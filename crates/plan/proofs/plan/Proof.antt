@@ -1,0 +1,82 @@
+-- `plan::plan` meets its contract. Past the check the columns are an order, and the sheet has its places.
+use Prim.Native.Nat.{ℕ}
+use mathlib.Core.Path.{_≡_, refl, sym, ap, subst, _∙_}
+use mathlib.Core.Bool.{true}
+use mathlib.Core.List.{List}
+use native.Mathlib.Omega.{arith}
+use borrow.Author.Needs.{needs}
+use borrow.Author.Tests.{not-true, not-false, eqb-true, eq-eqb}
+use Rattle.kinds.specs.Edition.{edition1, sized?}
+use Rattle.kinds.specs.Refusal.{said}
+use Rattle.kinds.specs.Lowest.{lowest}
+use Rattle.kinds.specs.declared.Answer.the-variants.{Done}
+use Rattle.kinds.proofs.TruthLaws.{denied}
+use Rattle.kinds.proofs.AnswerLaws.{refuses, does}
+use Rattle.order.proofs.TableLaws.{order-sound}
+use Rattle.plan.specs.Tool.{planLengths, planTable, Planned}
+use Rattle.plan.specs.Inside.{Plannable}
+use Rattle.plan.proofs.PlannedLaws.{planned}
+use Rattle.plan.proofs.plan.Statement.{statement}
+use Rattle.plan.proofs.plan.Tie as tie
+
+check-with-k-requires : tie.Need-check-with-k-requires
+check-with-k-requires c κs = search needs
+
+is-done-requires : tie.Need-is-done-requires
+is-done-requires c κs = search needs
+
+module _ (c : tie.After-is-done) where
+  abbrev start : tie.Start
+  start = c .before .before .before .before
+
+  abbrev n : ℕ
+  n = start .args .n
+
+  abbrev k : ℕ
+  k = start .args .k
+
+  abbrev C : List ℕ
+  C = start .args .columns .now
+
+  abbrev sheet : List ℕ
+  sheet = start .args .sheet .now
+
+  says : said (c .before .check-with-k .result) ≡ lowest (planTable edition1 n k C sheet)
+  says = c .before .check-with-k .ensures (planLengths edition1 sheet) (λ e. (eqb-true _ _ e, tt), λ right. eq-eqb _ _ (right .0))
+
+  module _ (yes-done : c .is-done .result ≡ true) where
+    done : c .before .check-with-k .result ≡ Done
+    done = c .is-done .ensures .0 yes-done
+
+    sound : Plannable n k C sheet
+    sound =
+        let (sized, right, order) = order-sound (sized? edition1 n k) n C (planLengths edition1 sheet) .0 (sym says ∙ ap said done) in
+        record { ordered = record { sized = sized; order = order }; places = right .0 }
+
+returns : tie.Need-returns
+returns c = refuses (denied (c .before .is-done .ensures) (not-true _ (c .if1 .taken))) (says (c .before)) refl
+
+write-sheet-requires : tie.Need-write-sheet-requires
+write-sheet-requires c κs = sound (c .before .before) (not-false _ (c .before .if1 .left))
+
+same-length : tie.Need-same-length
+same-length c = search needs
+
+returns-2 : tie.Need-returns-2
+returns-2 c =
+    let written = c .before .before in
+    let checked = written .before .before .before in
+    let yes-done = not-false _ (written .before .before .if1 .left) in
+    let s = sound checked yes-done .ordered in
+    does (done checked yes-done) (says checked) (subst (Planned edition1 (n checked) (k checked) (C checked)) (sym (written .write-sheet .ensures)) (planned (s .sized) (s .order) (omega arith)))
+
+pub plan-spec : {M : Type 1} → statement M
+plan-spec =
+    tie.close
+    (tie.spec
+    check-with-k-requires
+    is-done-requires
+    returns
+    write-sheet-requires
+    same-length
+    returns-2)

@@ -1,0 +1,103 @@
+-- What the functions inside the crate promise one another.
+--   Ordered n k C            sizes and order are sound
+--   Plannable n k C s        and s has all places of a sheet
+--   staged ss                the stages ss as they stand on a sheet, with zeros after them, and how many there are
+--   keptIn ms i              whether number i of a scan was kept, told from the masks ms: its mask has bit i exactly then
+--   listed ms a b kept       of the positions from a to b - 1, those that were kept, or, if kept is false, those that were not; counted from a
+--   unitsOf ps               2^p for each p of ps, with zeros after them, and how many there are
+--   bankThrough k G x        the bank of place x where the wiring is the identity, and G are the numbers of the stages
+--   Narrow C m               there is room for the columns C, and for m rows
+--   Within a b ms            the positions from a to b - 1 are of the list ms, which there is room for
+--   Pairable ds cs           there are as many directions ds as controls cs, and a side has room for these stages
+--   Columns k C              there is room for the columns C, and k is less than their bits
+--   Few F                    there is room for the columns F, and a side has room for as many stages as a scan of them keeps
+--   ReadRoom n k G l         sizes are sound; G are the numbers of no more stages than a side has places l for
+--   LaysRead n k G l         the places l are a side whose address is the tick, whose wiring is the identity, and whose stages have the numbers G
+--   WriteRoom n k C G l      the order C is sound, G are the numbers of its read stages, and l all places of a side
+--   Room A W G l             all places of a side l have room for address columns A, wiring columns W and the numbers G of stages
+--   LaysOut A W G l          the places l are a side with these
+use Prim.Native.Nat.{ℕ, _+_, _-_, _*_, _/_, _^_, _<_, _≤_}
+use mathlib.Core.Path.{_≡_}
+use mathlib.Core.Bool.{Bool, Bool-discrete}
+use mathlib.Core.List.{List}
+use lib.Dec.{leb}
+use lib.ListN.{length, getD}
+use Rattle.kinds.specs.Edition.{edition1, Sized, sidePlaces, sheetPlaces}
+use Rattle.kinds.specs.Frame.{tickOf, portOf}
+use Rattle.kinds.specs.Search.{those}
+use Rattle.bits.specs.Image.{columns}
+use Rattle.span.specs.Scan.{rank, units}
+use Rattle.order.specs.Order.{Order}
+use Rattle.sheet.specs.Sheet.{Stage, stagesIn, flat, laidOut}
+use Rattle.maps.specs.Cells.{afterStages}
+use Rattle.maps.specs.Opened.{openWidth, openStages, padded}
+use Rattle.plan.specs.Planned.{readStages}
+use Rattle.plan.specs.declared.Stages.{Stages}
+use Rattle.plan.specs.declared.Listed.{Listed}
+
+pub record Ordered (n k : ℕ) (C : List ℕ) : Type 0 where
+  pub sized : Sized edition1 n k
+  pub order : Order n C
+
+pub record Plannable (n k : ℕ) (C s : List ℕ) : Type 0 where
+  pub ordered : Ordered n k C
+  pub places : length s ≡ sheetPlaces edition1
+
+abbrev pub staged : List Stage → Stages
+staged ss = record { numbers = padded (flat ss); count = length ss }
+
+abbrev pub keptIn : List ℕ → ℕ → Bool
+keptIn ms i = leb (2 ^ i) (getD ms i 0)
+
+unfoldable pub listed : List ℕ → ℕ → ℕ → Bool → List ℕ
+unfolding those
+listed ms a b kept = those (λ j. Bool-discrete (keptIn ms (a + j)) kept) (b - a)
+
+abbrev pub unitsOf : List ℕ → Listed
+unitsOf ps = record { units = padded (units ps); count = length ps }
+
+abbrev pub bankThrough : ℕ → List ℕ → ℕ → ℕ
+bankThrough k G x = afterStages (stagesIn (length G / 2) G) (tickOf k x) (portOf k x)
+
+pub record Narrow (C : List ℕ) (m : ℕ) : Type 0 where
+  pub columns : length C ≤ openWidth
+  pub rows : m ≤ openWidth
+
+pub record Within (a b : ℕ) (ms : List ℕ) : Type 0 where
+  pub from : a ≤ b
+  pub to : b ≤ length ms
+  pub room : length ms ≤ openWidth
+
+pub record Pairable (ds cs : List ℕ) : Type 0 where
+  pub alike : length cs ≡ length ds
+  pub room : length ds ≤ openStages
+
+pub record Columns (k : ℕ) (C : List ℕ) : Type 0 where
+  pub room : length C ≤ openWidth
+  pub bits : k < openWidth
+
+pub record Few (F : List ℕ) : Type 0 where
+  pub room : length F ≤ openWidth
+  pub stages : rank F ≤ openStages
+
+pub record ReadRoom (n k : ℕ) (G l : List ℕ) : Type 0 where
+  pub sized : Sized edition1 n k
+  pub stages : length G ≤ 2 * edition1 .most-stages
+  pub side : length l ≡ sidePlaces edition1
+
+abbrev pub LaysRead : ℕ → ℕ → List ℕ → List ℕ → Type 0
+LaysRead n k G l = (ss : List Stage) → G ≡ flat ss → l ≡ laidOut edition1 (record { addresses = columns n (tickOf k); wiring = columns k (λ p. p); stages = ss })
+
+pub record WriteRoom (n k : ℕ) (C G l : List ℕ) : Type 0 where
+  pub ordered : Ordered n k C
+  pub stages : G ≡ flat (readStages n k C)
+  pub side : length l ≡ sidePlaces edition1
+
+pub record Room (A W G l : List ℕ) : Type 0 where
+  pub addresses : length A ≤ edition1 .most-n
+  pub wiring : length W ≤ edition1 .most-k
+  pub stages : length G ≤ 2 * edition1 .most-stages
+  pub side : length l ≡ sidePlaces edition1
+
+abbrev pub LaysOut : List ℕ → List ℕ → List ℕ → List ℕ → Type 0
+LaysOut A W G l = (ss : List Stage) → G ≡ flat ss → l ≡ laidOut edition1 (record { addresses = A; wiring = W; stages = ss })

@@ -1,0 +1,38 @@
+-- What the planner promises.
+--   planLengths e s         the length lent beside the columns: "sheet 64"
+--   planTable e n k C s     "Planner: 1 to 4"
+--   Planned e n k C s       the sheet s is the planned one, number for number; it is well-formed, and right for the order; it has exactly k - rank P1 read stages, and no sheet that is right
+--                           for the order has fewer
+--   Plans e n k C s s' r    the planner: done, the lent sheet is planned for the order; refused, it is as it came. s' is what the lent sheet s holds afterwards
+use Prim.Native.Nat.{ℕ, _+_, _≤_}
+use mathlib.Core.Path.{_≡_}
+use mathlib.Core.List.{List, [], _∷_}
+use lib.ListN.{length}
+use Rattle.kinds.specs.Answers.{Answers}
+use Rattle.kinds.specs.Edition.{Edition, sheetPlaces, sized?}
+use Rattle.kinds.specs.Lowest.{Reason}
+use Rattle.kinds.specs.Refusal.{said}
+use Rattle.kinds.specs.declared.Answer.{Answer}
+use Rattle.span.specs.Scan.{rank}
+use Rattle.order.specs.Parts.{rowsP1}
+use Rattle.order.specs.Table.{orderTable}
+use Rattle.sheet.specs.Sheet.{readSide}
+use Rattle.sheet.specs.Layout.{WellFormed}
+use Rattle.promise.specs.Series.{Right}
+use Rattle.plan.specs.Planned.{plannedSheet}
+
+abbrev pub planLengths : Edition → List ℕ → List (ℕ × ℕ)
+planLengths e s = (length s, sheetPlaces e) ∷ []
+
+abbrev pub planTable : Edition → ℕ → ℕ → List ℕ → List ℕ → List Reason
+planTable e n k C s = orderTable (sized? e n k) n C (planLengths e s)
+
+pub record Planned (e : Edition) (n k : ℕ) (C s : List ℕ) : Type 0 where
+  pub constructed : s ≡ plannedSheet e n k C
+  pub formed : WellFormed e n k s
+  pub right : Right e n k C s
+  pub stages : rank (rowsP1 k C) + length (readSide e n k s .stages) ≡ k
+  pub fewest : (s' : List ℕ) → WellFormed e n k s' → Right e n k C s' → length (readSide e n k s .stages) ≤ length (readSide e n k s' .stages)
+
+abbrev pub Plans : Edition → ℕ → ℕ → List ℕ → List ℕ → List ℕ → Answer → Type 0
+Plans e n k C s s' r = Answers (planTable e n k C s) (said r) (Planned e n k C s') (s' ≡ s)

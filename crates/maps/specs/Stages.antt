@@ -3,14 +3,14 @@
 --   selected ss c                   the sum of the directions whose controls AND c have an odd number of ones
 --   keptStages F                    01, 'The planner's choices', of the tick-to-bank part with the columns F: "a stage's direction is a kept column, and bit j of
 --                                   its control says whether that column is in the sum for tick bit j"
---   sideFor n k f                   the side that 01's planner writes for the map f of words to cells: "its port-to-bank part is the wiring", and the stages are those kept of
---                                   its tick-to-bank part
-use Prim.Native.Nat.{ℕ, _^_}
+--   sideFor n k f                   the side that 01's planner writes for the map f of words to cells: addresses are those of the cells, "its port-to-bank part is the wiring", and the
+--                                   stages are those kept of its tick-to-bank part
+use Prim.Native.Nat.{ℕ}
 use mathlib.Core.List.{List, map}
 use lib.ListN.{length, getD}
 use Rattle.kinds.specs.Frame.{tickBits, addressOf}
 use Rattle.bits.specs.Image.{image, columns}
-use Rattle.span.specs.Rows.{dots}
+use Rattle.span.specs.Rows.{dots, row}
 use Rattle.span.specs.Scan.{keptAt, masks}
 use Rattle.sheet.specs.Sheet.{Stage, Side}
 use Rattle.maps.specs.Cells.{portToBank, tickToBank}
@@ -25,8 +25,8 @@ abbrev pub selected : List Stage → ℕ → ℕ
 selected ss c = image (directions ss) (dots (controls ss) c)
 
 unfoldable pub keptStages : List ℕ → List Stage
-unfolding keptAt masks dots
-keptStages F = map (λ p. record { direction = getD F p 0; control = dots (masks F) (2 ^ p) }) (keptAt F (length F))
+unfolding keptAt masks
+keptStages F = map (λ p. record { direction = getD F p 0; control = row (masks F) p }) (keptAt F (length F))
 
 abbrev pub sideFor : ℕ → ℕ → (ℕ → ℕ) → Side
 sideFor n k f = record {

@@ -1,6 +1,7 @@
--- The planned sheet of 01's frames, computed on the written meaning.
+-- The planned sheets of 01's frames, computed on the written meaning; and one order for which the rows of P3, not restricted to the ports that P1 sends to 0, would give another read stage.
+use Prim.Native.Nat.{ℕ}
 use mathlib.Core.Path.{_≡_, refl}
-use mathlib.Core.List.{[], _∷_}
+use mathlib.Core.List.{List, [], _∷_, map}
 use native.Mathlib.Decide.{ℕ-discrete}
 use lib.Count.{ones}
 use Rattle.kinds.specs.Edition.{edition1}
@@ -11,15 +12,34 @@ use Rattle.bits.specs.Parity.{parity, dot}
 use Rattle.span.specs.Sums.{sumOf?}
 use Rattle.span.specs.Scan.{keptAt, others, mask, masks}
 use Rattle.span.specs.Rows.{dots, rows}
+use Rattle.order.specs.Parts.{rowsP3}
+use Rattle.sheet.specs.Sheet.{flat}
 use Rattle.sheet.proofs.Cases.{reversal}
 use Rattle.maps.specs.Cells.{afterStages}
 use Rattle.maps.specs.Stages.{keptStages}
-use Rattle.plan.specs.Planned.{otherRows, portsToZero, keptRows, pairs, readStages, plannedSheet}
+use Rattle.plan.specs.Planned.{othersOfP1, portsToZero, keptOfP3, pairs, readStages, plannedRead, plannedWrite, plannedSheet}
 
 computed : Unit {0}
-unfolding image columns ℕ-discrete sumOf? someBelow those keptAt others mask masks inOrder dots rows dot parity ones afterStages keptStages otherRows portsToZero keptRows pairs readStages
+unfolding image columns ℕ-discrete sumOf? someBelow those keptAt others mask masks inOrder dots rows dot parity ones afterStages keptStages othersOfP1 portsToZero keptOfP3 pairs readStages
 computed = tt
 
+-- write stages and read stages, direction then control
+abbrev stages : ℕ × ℕ × List ℕ → List ℕ × List ℕ
+stages (n, k, C) = (flat (plannedWrite n k C .stages), flat (plannedRead n k C .stages))
+
+planned-stages : map stages (
+    (1, 1, 1 ∷ []) ∷ (2, 1, 2 ∷ 1 ∷ []) ∷ (2, 1, 1 ∷ 3 ∷ []) ∷ (2, 2, 2 ∷ 1 ∷ []) ∷ (3, 1, 4 ∷ 2 ∷ 1 ∷ []) ∷ (4, 2, 2 ∷ 4 ∷ 8 ∷ 1 ∷ []) ∷ []
+    )
+    ≡ ([], []) ∷ (1 ∷ 1 ∷ [], 1 ∷ 1 ∷ []) ∷ (1 ∷ 1 ∷ [], []) ∷ ([], []) ∷ (1 ∷ 2 ∷ [], 1 ∷ 2 ∷ []) ∷ (1 ∷ 2 ∷ [], 1 ∷ 1 ∷ []) ∷ []
+unfolding computed
+planned-stages = refl
+
+-- n 3, k 1, bit reversal: write addresses 2 1 0, read addresses 0 1 2, wirings 1
 reversed : plannedSheet edition1 3 1 (4 ∷ 2 ∷ 1 ∷ []) ≡ reversal
 unfolding computed
 reversed = refl
+
+-- n 4, k 2, columns 5 8 1 2: P1 sends ports 0 and 2 to 0, and on these row 0 of P3 vanishes
+restricted : (keptOfP3 4 2 (5 ∷ 8 ∷ 1 ∷ 2 ∷ []) ≡ 1 ∷ []) × (keptAt (rowsP3 4 2 (5 ∷ 8 ∷ 1 ∷ 2 ∷ [])) 2 ≡ 0 ∷ 1 ∷ [])
+unfolding computed
+restricted = (refl, refl)

@@ -34,7 +34,7 @@ use Rattle.order.specs.Order.{place, Order}
 use Rattle.order.specs.Parts.{P1, P3, rowsP1, rowsP3}
 use Rattle.order.proofs.PartLaws.{P1-linear, P3-linear, P1-into, P3-into, rowsOf-dots, rowsOf-below}
 use Rattle.sheet.specs.Layout.{Layable}
-use Rattle.plan.specs.Planned.{otherRows, portsToZero, keptRows, readStages, plannedRead}
+use Rattle.plan.specs.Planned.{othersOfP1, portsToZero, keptOfP3, readStages, plannedRead}
 use Rattle.plan.proofs.PairLaws.{pairs-length, pairs-range}
 
 module _ (k : ℕ) (C : List ℕ) where
@@ -50,12 +50,12 @@ module _ (k : ℕ) (C : List ℕ) where
         λ p h e. those-has zero? (2 ^ k) p h (sym (dots-P1 p h) ∙ e),
       )
 
-  pub other-rows : rank (rowsP1 k C) + length (otherRows k C) ≡ k
-  unfolding otherRows
+  pub other-rows : rank (rowsP1 k C) + length (othersOfP1 k C) ≡ k
+  unfolding othersOfP1
   other-rows = others-count (rowsP1 k C) ∙ rows-length k (columns k (P1 k C))
 
-  pub others-below : AllBelow k (otherRows k C)
-  unfolding otherRows
+  pub others-below : AllBelow k (othersOfP1 k C)
+  unfolding othersOfP1
   others-below l h = omega (arith, those-at (sumBefore? (rowsP1 k C)) (length (rowsP1 k C)) l h .0, rows-length k (columns k (P1 k C)))
 
 module _ (n k : ℕ) (C : List ℕ) where
@@ -65,12 +65,12 @@ module _ (n k : ℕ) (C : List ℕ) where
   taken-length : length taken ≡ tickBits n k
   taken-length = length-map (rowsP3 n k C) (dots (portsToZero k C)) ∙ rows-length (tickBits n k) (columns k (P3 k C))
 
-  pub kept-below : AllBelow (tickBits n k) (keptRows n k C)
-  unfolding keptRows
+  pub kept-below : AllBelow (tickBits n k) (keptOfP3 n k C)
+  unfolding keptOfP3
   kept-below l h = omega (arith, keptAt-below taken (length taken) l h, taken-length)
 
-  kept-few : length (keptRows n k C) ≤ tickBits n k
-  unfolding keptRows
+  kept-few : length (keptOfP3 n k C) ≤ tickBits n k
+  unfolding keptOfP3
   kept-few = omega (arith, rank-positions taken, others-count taken, taken-length)
 
 module _ {n : ℕ} (k : ℕ) {C : List ℕ} (within : k ≤ n) (o : Order n C) where
@@ -93,8 +93,8 @@ module _ {n : ℕ} (k : ℕ) {C : List ℕ} (within : k ≤ n) (o : Order n C) w
       (below-append (2 ^ k) (rowsP1 k C) (rowsP3 n k C) (rowsOf-below k k (P1 k C)) (rowsOf-below (tickBits n k) k (P3 k C)))
       rows-vanish
 
-  pub kept-rows : rank (rowsP1 k C) + length (keptRows n k C) ≡ k
-  unfolding keptRows
+  pub kept-rows : rank (rowsP1 k C) + length (keptOfP3 n k C) ≡ k
+  unfolding keptOfP3
   kept-rows =
       let zeros = zero-ports k C in
       omega (
@@ -107,8 +107,8 @@ module _ {n : ℕ} (k : ℕ) {C : List ℕ} (within : k ≤ n) (o : Order n C) w
   pub read-count : rank (rowsP1 k C) + length (readStages n k C) ≡ k
   unfolding readStages
   read-count =
-      let (others, kept) : (length (units (otherRows k C)) ≡ length (otherRows k C)) × (length (units (keptRows n k C)) ≡ length (keptRows n k C)) = (length-map (otherRows k C) (λ i. 2 ^ i), length-map (keptRows n k C) (λ j. 2 ^ j)) in
-      omega (arith, pairs-length (units (otherRows k C)) (units (keptRows n k C)) (omega (arith, others, kept, other-rows k C, kept-rows)), others, other-rows k C)
+      let (others, kept) : (length (units (othersOfP1 k C)) ≡ length (othersOfP1 k C)) × (length (units (keptOfP3 n k C)) ≡ length (keptOfP3 n k C)) = (length-map (othersOfP1 k C) (λ i. 2 ^ i), length-map (keptOfP3 n k C) (λ j. 2 ^ j)) in
+      omega (arith, pairs-length (units (othersOfP1 k C)) (units (keptOfP3 n k C)) (omega (arith, others, kept, other-rows k C, kept-rows)), others, other-rows k C)
 
   pub read-few : length (readStages n k C) ≤ min k (tickBits n k)
   read-few = omega (arith, read-count, kept-rows, kept-few n k C)
@@ -122,6 +122,6 @@ module _ {n : ℕ} (k : ℕ) {C : List ℕ} (within : k ≤ n) (o : Order n C) w
     used = record {
       addresses = columns-below n (2 ^ tickBits n k) (tickOf k) (λ j h. tick-lt within (pow-lt h));
       wiring = columns-below k (2 ^ k) (λ p. p) (λ j h. pow-lt h);
-      stages = pairs-range k (tickBits n k) (otherRows k C) (keptRows n k C) (others-below k C) (kept-below n k C);
+      stages = pairs-range k (tickBits n k) (othersOfP1 k C) (keptOfP3 n k C) (others-below k C) (kept-below n k C);
     };
   }

@@ -6,4 +6,5 @@ pub mod PlannedLaws
 pub mod FillLaws
 pub mod ListedLaws
 pub mod DrawnLaws
+pub mod ToolLaws
 pub mod Cases

@@ -1,4 +1,5 @@
 -- One scan finds the rows: those of P1 and those of P3 are the rows of the first k columns, and what that scan keeps tells both choices.
+--   told               the mask of a number tells whether it was kept
 --   rows-together      the rows of the first k columns are the rows of P1 and then those of P3
 --   others-listed      the rows of P1 that are not kept
 --   kept-listed        the rows of P3 that are kept on the ports that P1 sends to 0
@@ -32,9 +33,15 @@ use Rattle.span.proofs.TakenLaws.{taken-kept}
 use Rattle.order.specs.Order.{place}
 use Rattle.order.specs.Parts.{P1, P3, rowsP1, rowsP3}
 use Rattle.order.proofs.PartLaws.{rowsOf-below}
-use Rattle.plan.specs.Planned.{otherRows, portsToZero, keptRows}
+use Rattle.plan.specs.Planned.{othersOfP1, portsToZero, keptOfP3}
 use Rattle.plan.specs.Inside.{keptIn, listed}
 use Rattle.plan.proofs.ChoiceLaws.{zero-ports}
+
+pub told : (vs ms : List ℕ) (i : ℕ) → getD ms i 0 ≡ mask vs i → Says (keptIn ms i) (IsKept vs i)
+told vs ms i e = (
+  λ kept. mask-says vs i .1 (rw e at (leb-true (2 ^ i) (getD ms i 0) kept)),
+  λ kept. le-leb (2 ^ i) (getD ms i 0) (rw e (mask-says vs i .0 kept)),
+)
 
 module _ (n k : ℕ) (C : List ℕ) (within : k ≤ n) (count : length C ≡ n) where
   abbrev R : List ℕ
@@ -87,34 +94,28 @@ module _ (n k : ℕ) (C : List ℕ) (within : k ≤ n) (count : length C ≡ n) 
       (λ i h. same-row i (rw rows-length at h))
 
   module _ (ms : List ℕ) (masked : (i : ℕ) → i < n → getD ms i 0 ≡ mask (R ++ S) i) where
-    told : (i : ℕ) → i < n → Says (keptIn ms i) (IsKept (R ++ S) i)
-    told i h = (
-      λ e. mask-says (R ++ S) i .1 (rw (masked i h) at (leb-true (2 ^ i) (getD ms i 0) e)),
-      λ kept. le-leb (2 ^ i) (getD ms i 0) (rw (masked i h) (mask-says (R ++ S) i .0 kept)),
-    )
-
-    pub others-listed : listed ms 0 k false ≡ otherRows k C
-    unfolding listed otherRows others
+    pub others-listed : listed ms 0 k false ≡ othersOfP1 k C
+    unfolding listed othersOfP1 others
     others-listed =
         ap (those (λ j. Bool-discrete (keptIn ms (0 + j)) false)) {x = k - 0} {y = length R} (omega (arith, first))
         ∙ those-same (λ j. Bool-discrete (keptIn ms (0 + j)) false) (sumBefore? R) (length R)
         (λ j h.
-        let kept = told j (omega (arith, first)) in
+        let kept = told (R ++ S) ms j (masked j (omega (arith, first))) in
         let prefix = IsKept-prefix R S j h in
         rw (zero-add j) (
           λ e. stable (sumBefore? R j) (λ own. denied kept e (prefix .1 own)),
           λ s. says-same (keptIn ms j) false kept (says-no (λ own. prefix .0 own s)),
         ))
 
-    pub kept-listed : listed ms k n true ≡ keptRows n k C
-    unfolding listed keptRows
+    pub kept-listed : listed ms k n true ≡ keptOfP3 n k C
+    unfolding listed keptOfP3
     kept-listed =
         let T = takenOn (portsToZero k C) S in
         let zeros = zero-ports k C in
         let at = taken-kept k R S (portsToZero k C) (rowsOf-below k k (P1 k C)) (rowsOf-below (tickBits n k) k (P3 k C)) (zeros .0) (zeros .1) in
         those-same (λ j. Bool-discrete (keptIn ms (k + j)) true) (λ j. opposite (sumBefore? T j)) (n - k)
         (λ j h.
-        let kept = told (k + j) (omega arith) in
+        let kept = told (R ++ S) ms (k + j) (masked (k + j) (omega arith)) in
         let taken : IsKept (R ++ S) (k + j) ↔ IsKept T j = rw first at (at j (rw second h)) in
         (λ e. taken .0 (kept .0 e), λ own. kept .1 (taken .1 own)))
         ∙ sym (kept-those T (n - k))

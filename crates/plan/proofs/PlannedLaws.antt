@@ -45,7 +45,7 @@ use Rattle.promise.proofs.PassLaws.{shares-invertible}
 use Rattle.promise.proofs.BoundLaws.{port-part}
 use Rattle.promise.proofs.ExactLaws.{passes-right, right-stages}
 use Rattle.plan.specs.Planned.{readStages, plannedRead, plannedM, plannedWrite, plannedSheet}
-use Rattle.plan.specs.Tool.{Planned}
+use Rattle.plan.specs.Tool.{IsPlanned}
 use Rattle.plan.proofs.ChoiceLaws.{read-count, read-layable}
 use Rattle.plan.proofs.WiringLaws.{wiring-vanish}
 
@@ -162,7 +162,7 @@ module _ {e : Edition} {n k : ℕ} {C : List ℕ} (sized : Sized e n k) (order :
   pub planned-formed : WellFormed e n k sheet
   planned-formed = sheet-formed e n k sized (plannedWrite n k C) (plannedRead n k C) write-layable read-laid
 
-  pub planned : Planned e n k C sheet
+  pub planned : IsPlanned e n k C sheet
   planned = record {
     constructed = refl;
     formed = planned-formed;

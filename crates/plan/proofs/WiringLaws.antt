@@ -20,16 +20,16 @@ use Rattle.span.proofs.PositionLaws.{over-none, units-none, those-independent}
 use Rattle.order.specs.Order.{Order}
 use Rattle.order.specs.Parts.{P1, P3, rowsP1, rowsP3}
 use Rattle.maps.specs.Stages.{selected}
-use Rattle.plan.specs.Planned.{otherRows, portsToZero, keptRows, readStages}
+use Rattle.plan.specs.Planned.{othersOfP1, portsToZero, keptOfP3, readStages}
 use Rattle.plan.proofs.ChoiceLaws.{dots-P1, dots-P3, zero-ports, other-rows, kept-rows, parts-vanish}
 use Rattle.plan.proofs.PairLaws.{pairs-selected}
 
 module _ {n : ℕ} (k : ℕ) {C : List ℕ} (within : k ≤ n) (o : Order n C) where
   abbrev is : List ℕ
-  is = otherRows k C
+  is = othersOfP1 k C
 
   abbrev js : List ℕ
-  js = keptRows n k C
+  js = keptOfP3 n k C
 
   as-many : length (units js) ≡ length (units is)
   as-many = omega (arith, length-map is (λ i. 2 ^ i), length-map js (λ j. 2 ^ j), other-rows k C, kept-rows k within o)
@@ -46,7 +46,7 @@ module _ {n : ℕ} (k : ℕ) {C : List ℕ} (within : k ≤ n) (o : Order n C) w
     from-bits = sym (xor-zero-eq (selected (readStages n k C) (P3 k C p)) (P1 k C p) e) ∙ read-selected (P3 k C p)
 
     rows-zero : dots (rowsP1 k C) p ≡ 0
-    unfolding otherRows
+    unfolding othersOfP1
     rows-zero =
         vanish-at-kept (rowsP1 k C) p
         (λ l g. ap (bit _) (dots-P1 k C p h ∙ from-bits) ∙ over-none is _ bits (λ m b. kept-apart (rowsP1 k C) l m g b))
@@ -55,12 +55,12 @@ module _ {n : ℕ} (k : ℕ) {C : List ℕ} (within : k ≤ n) (o : Order n C) w
     port-zero = sym (dots-P1 k C p h) ∙ rows-zero
 
     bits-zero : bits ≡ 0
-    unfolding otherRows
+    unfolding othersOfP1
     bits-zero =
         those-independent (sumBefore? (rowsP1 k C)) (length (rowsP1 k C)) bits (rw as-many at (dots-lt (units js) (P3 k C p))) (sym from-bits ∙ port-zero)
 
     tick-zero : P3 k C p ≡ 0
-    unfolding keptRows
+    unfolding keptOfP3
     tick-zero =
         let (l, b, same) = zero-ports k C .1 p h rows-zero in
         let S = rowsP3 n k C in

@@ -2,20 +2,21 @@
 --   Ordered n k C            sizes and order are sound
 --   Plannable n k C s        and s has all places of a sheet
 --   staged ss                the stages ss as they stand on a sheet, with zeros after them, and how many there are
---   keptIn ms i              whether number i of a scan was kept, told from the masks ms: its mask has bit i exactly then
+--   keptIn ms i              whether number i of a scan was kept, told from the masks ms: its mask is 2^i or more exactly then
 --   listed ms a b kept       of the positions from a to b - 1, those that were kept, or, if kept is false, those that were not; counted from a
 --   unitsOf ps               2^p for each p of ps, with zeros after them, and how many there are
 --   bankThrough k G x        the bank of place x where the wiring is the identity, and G are the numbers of the stages
 --   Narrow C m               there is room for the columns C, and for m rows
+--   MaskOf ms i              number i of a scan has a mask among ms, which there is room for
 --   Within a b ms            the positions from a to b - 1 are of the list ms, which there is room for
 --   Pairable ds cs           there are as many directions ds as controls cs, and a side has room for these stages
---   Columns k C              there is room for the columns C, and k is less than their bits
---   Few F                    there is room for the columns F, and a side has room for as many stages as a scan of them keeps
---   ReadRoom n k G l         sizes are sound; G are the numbers of no more stages than a side has places l for
---   LaysRead n k G l         the places l are a side whose address is the tick, whose wiring is the identity, and whose stages have the numbers G
---   WriteRoom n k C G l      the order C is sound, G are the numbers of its read stages, and l all places of a side
---   Room A W G l             all places of a side l have room for address columns A, wiring columns W and the numbers G of stages
+--   Shiftable k C            there is room for the columns C, and k is less than their 16 bits
+--   FewKept F                there is room for the columns F, and a side has room for as many stages as a scan of them keeps
+--   ReadRoom n k G l         sizes are sound, G are the numbers of some stages, no more than a side may have, and l is all places of a side
+--   WriteRoom n k C G l      sizes and order are sound, G are the numbers of its read stages, and l is all places of a side
+--   SideRoom A W G l         l is all places of a side, with room for address columns A, wiring columns W and the numbers G of some stages
 --   LaysOut A W G l          the places l are a side with these
+--   LaysRead n k G l         the places l are a side whose address is the tick, whose wiring is the identity, and whose stages have the numbers G
 use Prim.Native.Nat.{ℕ, _+_, _-_, _*_, _/_, _^_, _<_, _≤_}
 use mathlib.Core.Path.{_≡_}
 use mathlib.Core.Bool.{Bool, Bool-discrete}
@@ -63,6 +64,10 @@ pub record Narrow (C : List ℕ) (m : ℕ) : Type 0 where
   pub columns : length C ≤ openWidth
   pub rows : m ≤ openWidth
 
+pub record MaskOf (ms : List ℕ) (i : ℕ) : Type 0 where
+  pub inside : i < length ms
+  pub room : length ms ≤ openWidth
+
 pub record Within (a b : ℕ) (ms : List ℕ) : Type 0 where
   pub from : a ≤ b
   pub to : b ≤ length ms
@@ -72,32 +77,34 @@ pub record Pairable (ds cs : List ℕ) : Type 0 where
   pub alike : length cs ≡ length ds
   pub room : length ds ≤ openStages
 
-pub record Columns (k : ℕ) (C : List ℕ) : Type 0 where
+pub record Shiftable (k : ℕ) (C : List ℕ) : Type 0 where
   pub room : length C ≤ openWidth
-  pub bits : k < openWidth
+  pub bits : k < 16
 
-pub record Few (F : List ℕ) : Type 0 where
+pub record FewKept (F : List ℕ) : Type 0 where
   pub room : length F ≤ openWidth
   pub stages : rank F ≤ openStages
 
 pub record ReadRoom (n k : ℕ) (G l : List ℕ) : Type 0 where
   pub sized : Sized edition1 n k
+  pub whole : (ss : List Stage) × (G ≡ flat ss)
   pub stages : length G ≤ 2 * edition1 .most-stages
   pub side : length l ≡ sidePlaces edition1
-
-abbrev pub LaysRead : ℕ → ℕ → List ℕ → List ℕ → Type 0
-LaysRead n k G l = (ss : List Stage) → G ≡ flat ss → l ≡ laidOut edition1 (record { addresses = columns n (tickOf k); wiring = columns k (λ p. p); stages = ss })
 
 pub record WriteRoom (n k : ℕ) (C G l : List ℕ) : Type 0 where
   pub ordered : Ordered n k C
   pub stages : G ≡ flat (readStages n k C)
   pub side : length l ≡ sidePlaces edition1
 
-pub record Room (A W G l : List ℕ) : Type 0 where
+pub record SideRoom (A W G l : List ℕ) : Type 0 where
   pub addresses : length A ≤ edition1 .most-n
   pub wiring : length W ≤ edition1 .most-k
+  pub whole : (ss : List Stage) × (G ≡ flat ss)
   pub stages : length G ≤ 2 * edition1 .most-stages
   pub side : length l ≡ sidePlaces edition1
 
 abbrev pub LaysOut : List ℕ → List ℕ → List ℕ → List ℕ → Type 0
 LaysOut A W G l = (ss : List Stage) → G ≡ flat ss → l ≡ laidOut edition1 (record { addresses = A; wiring = W; stages = ss })
+
+abbrev pub LaysRead : ℕ → ℕ → List ℕ → List ℕ → Type 0
+LaysRead n k G l = LaysOut (columns n (tickOf k)) (columns k (λ p. p)) G l

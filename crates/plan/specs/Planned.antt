@@ -1,13 +1,13 @@
 -- The sheet that is planned for the order with the columns C (01, 'The planner's choices'; 001, Algorithm 5.2).
---   otherRows k C        rows of P1, scanned "from 0 up": "the k - r others are i1 < i2 < ..."
+--   othersOfP1 k C       the numbers of the rows of P1 that are not kept when they are scanned "from 0 up": "the k - r others are i1 < i2 < ..."
 --   portsToZero k C      the "ports that P1 sends to 0"
---   keptRows n k C       "rows of P3, taken only on ports that P1 sends to 0": "the kept are j1 < j2 < ..., k - r of them"
---   pairs ds cs          the stages with the directions ds and the controls cs
+--   keptOfP3 n k C       the numbers of the rows of P3 that are kept, "taken only on ports that P1 sends to 0": "the kept are j1 < j2 < ..., k - r of them"
+--   pairs ds cs          the stages with the directions ds and the controls cs, which are equally many (laws `other-rows` and `kept-rows`)
 --   readStages n k C     "stages (2^i1, 2^j1), (2^i2, 2^j2), ..."
---   plannedRead n k C    the read side: "address is the tick, wiring the identity"
+--   plannedRead n k C    the read side: "address is the tick, wiring the identity", and these stages
 --   plannedM n k C i     "M = N P"
---   plannedWrite n k C   the write side
---   plannedSheet e n k C     the sheet
+--   plannedWrite n k C   the write side, which has M for its map
+--   plannedSheet e n k C the sheet
 use Prim.Native.Nat.{ℕ, _^_}
 use mathlib.Core.List.{List, [], _∷_}
 use native.Mathlib.Decide.{ℕ-discrete}
@@ -24,17 +24,17 @@ use Rattle.sheet.specs.Sheet.{Stage, Side, sheetOf}
 use Rattle.maps.specs.Cells.{cellOf}
 use Rattle.maps.specs.Stages.{sideFor}
 
-unfoldable pub otherRows : ℕ → List ℕ → List ℕ
+unfoldable pub othersOfP1 : ℕ → List ℕ → List ℕ
 unfolding others
-otherRows k C = others (rowsP1 k C)
+othersOfP1 k C = others (rowsP1 k C)
 
 unfoldable pub portsToZero : ℕ → List ℕ → List ℕ
 unfolding those
 portsToZero k C = those (λ p. ℕ-discrete (P1 k C p) 0) (2 ^ k)
 
-unfoldable pub keptRows : ℕ → ℕ → List ℕ → List ℕ
+unfoldable pub keptOfP3 : ℕ → ℕ → List ℕ → List ℕ
 unfolding keptAt portsToZero
-keptRows n k C = let rows = takenOn (portsToZero k C) (rowsP3 n k C) in keptAt rows (length rows)
+keptOfP3 n k C = let rows = takenOn (portsToZero k C) (rowsP3 n k C) in keptAt rows (length rows)
 
 unfoldable pub pairs : List ℕ → List ℕ → List Stage
 pairs [] cs = []
@@ -42,8 +42,8 @@ pairs (d ∷ ds) [] = []
 pairs (d ∷ ds) (c ∷ cs) = record { direction = d; control = c } ∷ pairs ds cs
 
 unfoldable pub readStages : ℕ → ℕ → List ℕ → List Stage
-unfolding pairs otherRows keptRows
-readStages n k C = pairs (units (otherRows k C)) (units (keptRows n k C))
+unfolding pairs othersOfP1 keptOfP3
+readStages n k C = pairs (units (othersOfP1 k C)) (units (keptOfP3 n k C))
 
 abbrev pub plannedRead : ℕ → ℕ → List ℕ → Side
 plannedRead n k C = record { addresses = columns n (tickOf k); wiring = columns k (λ p. p); stages = readStages n k C }

@@ -1,9 +1,9 @@
 -- What the planner promises.
 --   planLengths e s         the length lent beside the columns: "sheet 64"
 --   planTable e n k C s     "Planner: 1 to 4"
---   Planned e n k C s       the sheet s is the planned one, number for number; it is well-formed, and right for the order; it has exactly k - rank P1 read stages, and no sheet that is right
---                           for the order has fewer
---   Plans e n k C s s' r    the planner: done, the lent sheet is planned for the order; refused, it is as it came. s' is what the lent sheet s holds afterwards
+--   IsPlanned e n k C s     s is the planned sheet, number for number; it is well-formed, and right for the order C; it has exactly k - rank P1 read stages, and no well-formed sheet
+--                           that is right for the order has fewer
+--   Plans e n k C s s' r    the planner: r is the lowest of 1 to 4 that applies; done, s' is planned for the order; refused, s' is s. s' is what the lent sheet s holds afterwards
 use Prim.Native.Nat.{ℕ, _+_, _≤_}
 use mathlib.Core.Path.{_≡_}
 use mathlib.Core.List.{List, [], _∷_}
@@ -27,12 +27,13 @@ planLengths e s = (length s, sheetPlaces e) ∷ []
 abbrev pub planTable : Edition → ℕ → ℕ → List ℕ → List ℕ → List Reason
 planTable e n k C s = orderTable (sized? e n k) n C (planLengths e s)
 
-pub record Planned (e : Edition) (n k : ℕ) (C s : List ℕ) : Type 0 where
+pub record IsPlanned (e : Edition) (n k : ℕ) (C s : List ℕ) : Type 0 where
   pub constructed : s ≡ plannedSheet e n k C
   pub formed : WellFormed e n k s
   pub right : Right e n k C s
   pub stages : rank (rowsP1 k C) + length (readSide e n k s .stages) ≡ k
-  pub fewest : (s' : List ℕ) → WellFormed e n k s' → Right e n k C s' → length (readSide e n k s .stages) ≤ length (readSide e n k s' .stages)
+  pub fewest : (other : List ℕ) → WellFormed e n k other → Right e n k C other
+      → length (readSide e n k s .stages) ≤ length (readSide e n k other .stages)
 
 abbrev pub Plans : Edition → ℕ → ℕ → List ℕ → List ℕ → List ℕ → Answer → Type 0
-Plans e n k C s s' r = Answers (planTable e n k C s) (said r) (Planned e n k C s') (s' ≡ s)
+Plans e n k C s s' r = Answers (planTable e n k C s) (said r) (IsPlanned e n k C s') (s' ≡ s)

@@ -1,25 +1,25 @@
 // The planner: from an order to its sheet (01, 'The planner's choices').
 ghost use mathlib.Core.Path.{_≡_};
 ghost use mathlib.Core.List.{map};
-ghost use Prim.Native.Nat.{_+_, _≤_, _^_};
+ghost use Prim.Native.Nat.{_+_, _/_, _≤_, _^_};
 ghost use lib.ListN.{length};
 ghost use Rattle.kinds.specs.Edition.{edition1};
 ghost use Rattle.kinds.specs.Frame.{tickOf};
 ghost use Rattle.bits.specs.Image.{columns as columnsOf};
 ghost use Rattle.span.specs.Scan.{masks as masksOf};
-ghost use Rattle.span.specs.Rows.{dots, rows as rowsOf};
+ghost use Rattle.span.specs.Rows.{row as rowIn, rows as rowsIn};
 ghost use Rattle.sheet.specs.Sheet.{laidOut, paddedTo};
 ghost use Rattle.maps.specs.Opened.{openWidth, padded};
 ghost use Rattle.maps.specs.Stages.{keptStages};
 ghost use Rattle.plan.specs.Planned.{pairs, readStages, plannedWrite, plannedSheet};
 ghost use Rattle.plan.specs.Tool.{Plans};
-ghost use Rattle.plan.specs.Inside.{Plannable, Ordered, staged, listed, unitsOf, bankThrough, Narrow, Within, Pairable, Columns, Few, ReadRoom, LaysRead, WriteRoom, Room, LaysOut};
+ghost use Rattle.plan.specs.Inside.{Plannable, Ordered, staged, listed, keptIn, unitsOf, bankThrough, Narrow, MaskOf, Within, Pairable, Shiftable, FewKept, ReadRoom, LaysRead, WriteRoom, SideRoom, LaysOut};
 use kinds::Answer;
 use kinds::Bank;
 use kinds::Tick;
 use span::Scan;
 
-// Room for the columns of an order, for its rows, and for the stages of a side.
+// Room for the columns of an order, for its rows, and for the numbers of a side's stages, two each.
 const WIDTH: usize = 16;
 
 // The sheet for an order. 1 to 4.
@@ -36,7 +36,7 @@ pub fn plan(n: u32, k: u32, columns: &[u16], sheet: &mut [u16]) -> Answer
     answer
 }
 
-// Stages as they stand on a sheet, and zeros after them.
+// Stages as they stand on a sheet, and zeros after them; `count` counts the stages.
 struct Stages {
     numbers: [u16; WIDTH],
     count: usize,
@@ -54,17 +54,18 @@ fn write_sheet(n: u32, k: u32, columns: &[u16], sheet: &mut [u16])
     lay_write_side(n, k, columns, stages, &mut sheet[0..sheet::SIDE]);
 }
 
-// The rows of P1 and of P3 are the rows of the first k columns, and one scan goes over both: on the ports that P1 sends to 0, a sum of rows of P1 vanishes.
+// The rows of P1 and then those of P3 are the rows of the first k columns, and one scan goes over both: on the ports that P1 sends to 0, the sums of rows that vanish
+// are exactly the sums of rows of P1. There are as many others of P1 as there are kept of P3.
 fn read_stages(n: u32, k: u32, columns: &[u16]) -> Stages
     requires { ⌜ Ordered n k (now columns) ⌝ }
     ensures { λ r. ⌜ r ≡ staged (readStages n k (now (columns .entry))) ⌝ }
 {
-    let ports = k as usize;
-    let width = n as usize;
-    let rows = rows_of(&columns[0..ports], width);
-    let masks = masks_of(&rows[0..width]);
-    let others = list_rows(&masks, 0, ports, false);
-    let kept = list_rows(&masks, ports, width, true);
+    let port_bits = k as usize;
+    let word_bits = n as usize;
+    let rows = rows_of(&columns[0..port_bits], word_bits);
+    let masks = masks_of(&rows[0..word_bits]);
+    let others = list_rows(&masks, 0, port_bits, false);
+    let kept = list_rows(&masks, port_bits, word_bits, true);
     let count = others.count;
     let directions = others.units;
     let controls = kept.units;
@@ -73,7 +74,7 @@ fn read_stages(n: u32, k: u32, columns: &[u16]) -> Stages
 
 fn rows_of(columns: &[u16], count: usize) -> [u16; WIDTH]
     requires { ⌜ Narrow (now columns) count ⌝ }
-    ensures { λ r. ⌜ r ≡ padded (rowsOf count (now (columns .entry))) ⌝ }
+    ensures { λ r. ⌜ r ≡ padded (rowsIn count (now (columns .entry))) ⌝ }
 {
     let mut rows = [0; WIDTH];
     let mut i = 0;
@@ -87,7 +88,7 @@ fn rows_of(columns: &[u16], count: usize) -> [u16; WIDTH]
 // Bit j of row i is bit i of number j.
 fn row(numbers: &[u16], i: usize) -> u16
     requires { ⌜ Narrow (now numbers) (i + 1) ⌝ }
-    ensures { λ r. ⌜ r ≡ dots (now (numbers .entry)) (2 ^ i) ⌝ }
+    ensures { λ r. ⌜ r ≡ rowIn (now (numbers .entry)) i ⌝ }
 {
     let mut row = 0;
     let mut j = numbers.len();
@@ -98,7 +99,7 @@ fn row(numbers: &[u16], i: usize) -> u16
     row
 }
 
-// The masks of the numbers scanned; number i was kept exactly where its mask has bit i.
+// The masks of the numbers, scanned in order.
 fn masks_of(numbers: &[u16]) -> [u16; WIDTH]
     requires { ⌜ length (now numbers) ≤ openWidth ⌝ }
     ensures { λ r. ⌜ r ≡ padded (masksOf (now (numbers .entry))) ⌝ }
@@ -115,12 +116,21 @@ fn masks_of(numbers: &[u16]) -> [u16; WIDTH]
     masks
 }
 
+// Number i was kept exactly when its mask is 2^i: the mask of any other selects numbers before it.
+fn was_kept(masks: &[u16], i: usize) -> bool
+    requires { ⌜ MaskOf (now masks) i ⌝ }
+    ensures { λ r. ⌜ r ≡ keptIn (now (masks .entry)) i ⌝ }
+{
+    bits::two_to(i as u32) <= masks[i] as u32
+}
+
+// Row numbers i, each as 2^i, and zeros after them.
 struct Listed {
     units: [u16; WIDTH],
     count: usize,
 }
 
-// Of the numbers from a to b - 1, those that were kept, or those that were not: 2^0 stands for number a.
+// Of the rows from a to b - 1, those that were kept, or those that were not; 2^0 stands for row a.
 fn list_rows(masks: &[u16], a: usize, b: usize, kept: bool) -> Listed
     requires { ⌜ Within a b (now masks) ⌝ }
     ensures { λ r. ⌜ r ≡ unitsOf (listed (now (masks .entry)) a b kept) ⌝ }
@@ -129,8 +139,7 @@ fn list_rows(masks: &[u16], a: usize, b: usize, kept: bool) -> Listed
     let mut count = 0;
     let mut i = a;
     while i < b {
-        let was_kept = bits::two_to(i as u32) <= masks[i] as u32;
-        if was_kept == kept {
+        if was_kept(masks, i) == kept {
             units[count] = bits::two_to((i - a) as u32) as u16;
             count += 1;
         }
@@ -159,49 +168,54 @@ fn lay_read_side(n: u32, k: u32, stages: &[u16], side: &mut [u16])
     requires { ⌜ ReadRoom n k (now stages) (now side) ⌝ }
     ensures { λ r. ⌜ LaysRead n k (now (stages .entry)) (now (side .exit)) ⌝ }
 {
-    let ports = k as usize;
-    let width = n as usize;
-    let ticks = units(ports, width);
-    let wires = units(0, ports);
-    lay_out(&ticks[0..width], &wires[0..ports], stages, side);
+    let port_bits = k as usize;
+    let word_bits = n as usize;
+    let addresses = unit_columns(port_bits, word_bits);
+    let wiring = unit_columns(0, port_bits);
+    lay_out(
+        &addresses[0..word_bits],
+        &wiring[0..port_bits],
+        stages,
+        side,
+    );
 }
 
 // 2^0, 2^1, .. from place a up to b - 1, and zeros elsewhere.
-fn units(a: usize, b: usize) -> [u16; WIDTH]
+fn unit_columns(a: usize, b: usize) -> [u16; WIDTH]
     requires { ⌜ b ≤ openWidth ⌝ }
-    ensures { λ r. ⌜ r ≡ padded (columnsOf b (tickOf a)) ⌝ }
+    ensures { λ r. ⌜ r ≡ padded (columnsOf b (λ x. x / 2 ^ a)) ⌝ }
 {
-    let mut units = [0; WIDTH];
+    let mut columns = [0; WIDTH];
     let mut j = a;
     while j < b {
-        units[j] = bits::two_to((j - a) as u32) as u16;
+        columns[j] = bits::two_to((j - a) as u32) as u16;
         j += 1;
     }
-    units
+    columns
 }
 
-// M = N P, column by column.
+// M = N P, column by column: the address is the tick of the order's column, and the bank its port, taken through the read stages. The banks of the first k are the wiring.
 fn lay_write_side(n: u32, k: u32, columns: &[u16], stages: &[u16], side: &mut [u16])
     requires { ⌜ WriteRoom n k (now columns) (now stages) (now side) ⌝ }
     ensures { λ r. ⌜ now (side .exit) ≡ laidOut edition1 (plannedWrite n k (now (columns .entry))) ⌝ }
 {
-    let ports = k as usize;
-    let width = n as usize;
+    let port_bits = k as usize;
+    let word_bits = n as usize;
     let addresses = ticks_of(columns, k);
     let banks = banks_of(columns, k, stages);
-    let write = kept_stages(&banks[ports..width]);
+    let write = kept_stages(&banks[port_bits..word_bits]);
     let numbers = write.numbers;
     let end = 2 * write.count;
     lay_out(
-        &addresses[0..width],
-        &banks[0..ports],
+        &addresses[0..word_bits],
+        &banks[0..port_bits],
         &numbers[0..end],
         side,
     );
 }
 
 fn ticks_of(places: &[u16], k: u32) -> [u16; WIDTH]
-    requires { ⌜ Columns k (now places) ⌝ }
+    requires { ⌜ Shiftable k (now places) ⌝ }
     ensures { λ r. ⌜ r ≡ padded (map (tickOf k) (now (places .entry))) ⌝ }
 {
     let mut ticks = [0; WIDTH];
@@ -213,9 +227,8 @@ fn ticks_of(places: &[u16], k: u32) -> [u16; WIDTH]
     ticks
 }
 
-// The wiring of the read side is the identity; then come its stages.
 fn banks_of(places: &[u16], k: u32, stages: &[u16]) -> [u16; WIDTH]
-    requires { ⌜ Columns k (now places) ⌝ }
+    requires { ⌜ Shiftable k (now places) ⌝ }
     ensures { λ r. ⌜ r ≡ padded (map (bankThrough k (now (stages .entry))) (now (places .entry))) ⌝ }
 {
     let mut banks = [0; WIDTH];
@@ -223,7 +236,9 @@ fn banks_of(places: &[u16], k: u32, stages: &[u16]) -> [u16; WIDTH]
     let mut j = 0;
     while j < places.len() {
         let place = places[j] as u32;
-        let bank = maps::after_stages(stages, Tick(place / ports), Bank(place % ports));
+        let tick = place / ports;
+        let port = place % ports;
+        let bank = maps::after_stages(stages, Tick(tick), Bank(port));
         banks[j] = bank.0 as u16;
         j += 1;
     }
@@ -232,7 +247,7 @@ fn banks_of(places: &[u16], k: u32, stages: &[u16]) -> [u16; WIDTH]
 
 // "A stage's direction is a kept column, and bit j of its control says whether that column is in the sum for tick bit j" (01).
 fn kept_stages(columns: &[u16]) -> Stages
-    requires { ⌜ Few (now columns) ⌝ }
+    requires { ⌜ FewKept (now columns) ⌝ }
     ensures { λ r. ⌜ r ≡ staged (keptStages (now (columns .entry))) ⌝ }
 {
     let all = masks_of(columns);
@@ -241,7 +256,7 @@ fn kept_stages(columns: &[u16]) -> Stages
     let mut count = 0;
     let mut j = 0;
     while j < columns.len() {
-        if bits::two_to(j as u32) <= masks[j] as u32 {
+        if was_kept(masks, j) {
             numbers[2 * count] = columns[j];
             numbers[2 * count + 1] = row(masks, j);
             count += 1;
@@ -252,7 +267,7 @@ fn kept_stages(columns: &[u16]) -> Stages
 }
 
 fn lay_out(addresses: &[u16], wiring: &[u16], stages: &[u16], side: &mut [u16])
-    requires { ⌜ Room (now addresses) (now wiring) (now stages) (now side) ⌝ }
+    requires { ⌜ SideRoom (now addresses) (now wiring) (now stages) (now side) ⌝ }
     ensures { λ r. ⌜ LaysOut (now (addresses .entry)) (now (wiring .entry)) (now (stages .entry)) (now (side .exit)) ⌝ }
 {
     pad_into(addresses, &mut side[0..sheet::WIRING]);

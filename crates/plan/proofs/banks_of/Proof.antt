@@ -38,11 +38,11 @@ shared-slice-read-place c = search needs
 cast-place : tie.Need-cast-place Inv-loop μ-loop
 cast-place c = fits-widen tt (c .shared-slice-known3 .given _)
 
-div-t13 : tie.Need-div-t13 Inv-loop μ-loop
-div-t13 c = rw (ports (c .before .before .before)) (pow-pos _)
+div-tick : tie.Need-div-tick Inv-loop μ-loop
+div-tick c = rw (ports (c .before .before .before)) (pow-pos _)
 
-rem-t15 : tie.Need-rem-t15 Inv-loop μ-loop
-rem-t15 c = rw (ports (c .before .before .before)) (pow-pos _)
+rem-port : tie.Need-rem-port Inv-loop μ-loop
+rem-port c = rw (ports (c .before .before .before)) (pow-pos _)
 
 after-stages-requires : tie.Need-after-stages-requires Inv-loop μ-loop
 after-stages-requires c κs = search needs
@@ -89,8 +89,8 @@ banks-of-spec =
     mul-place
     shared-slice-read-place
     cast-place
-    div-t13
-    rem-t15
+    div-tick
+    rem-port
     after-stages-requires
     cast-banks
     mul-banks

@@ -1,6 +1,7 @@
 -- `plan::kept_stages` meets its contract. The invariant: the stages of the columns kept among the first j stand, and the count is theirs.
 use Prim.Native.Nat.{ℕ, _≤_, _<_, _+_, _-_, _*_, _^_}
-use mathlib.Core.Path.{_≡_, refl, sym}
+use mathlib.Core.Path.{_≡_, refl, sym, ap}
+use mathlib.Core.Bool.{Bool, true, false}
 use mathlib.Core.List.{List, [], _∷_, _++_, map, map-append}
 use mathlib.Core.Logic.{⊎-elim, _↔_}
 use native.Mathlib.Numerals.{add-one}
@@ -9,6 +10,8 @@ use borrow.Author.Needs.{needs}
 use mir.Facts.{fits-widen}
 use lib.ListN.{length, getD, set, replicate, length-map, length-append}
 use lib.Seq.{take-at}
+use Rattle.kinds.specs.Answers.{Says}
+use Rattle.kinds.proofs.TruthLaws.{denied}
 use Rattle.span.specs.Scan.{IsKept, keptAt, masks}
 use Rattle.span.specs.Rows.{dots}
 use Rattle.span.proofs.ScanLaws.{kept-or-sum, keptAt-old, keptAt-new, keptAt-longer}
@@ -18,9 +21,10 @@ use Rattle.sheet.specs.Sheet.{Stage, flat}
 use Rattle.sheet.proofs.LayLaws.{stage-more}
 use Rattle.maps.specs.Opened.{openWidth, openStages, padded}
 use Rattle.maps.specs.Stages.{keptStages}
-use Rattle.plan.specs.Inside.{Few, staged}
+use Rattle.plan.specs.Inside.{FewKept, staged, keptIn}
 use Rattle.plan.proofs.kept_stages.Statement.{statement}
 use Rattle.plan.proofs.kept_stages.Tie as tie
+use Rattle.plan.proofs.ListedLaws.{told}
 
 abbrev stageFor : List ℕ → ℕ → Stage
 stageFor F p = record { direction = getD F p 0; control = dots (masks F) (2 ^ p) }
@@ -30,24 +34,24 @@ abbrev stagesAt : List ℕ → ℕ → List Stage
 stagesAt F j = map (stageFor F) (keptAt F j)
 
 record Keeping (F ms numbers : List ℕ) (count j : ℕ) : Type 0 where
-  few : Few F
+  few : FewKept F
   masked : ms ≡ masks F
   within : j ≤ length F
   so-far : numbers ≡ padded (flat (stagesAt F j))
   counted : count ≡ length (stagesAt F j)
 
-start : {F ms : List ℕ} → Few F → ms ≡ masks F → Keeping F ms (replicate openWidth 0) 0 0
+start : {F ms : List ℕ} → FewKept F → ms ≡ masks F → Keeping F ms (replicate openWidth 0) 0 0
 unfolding keptAt
 start few masked = record { few = few; masked = masked; within = omega arith; so-far = refl; counted = refl }
 
 module _ {F ms numbers : List ℕ} {count j : ℕ} (i : Keeping F ms numbers count j) where
-  module _ {unit : ℕ} (h : j < length F) (e : unit ≡ 2 ^ j) where
-    says : IsKept F j ↔ (unit ≤ getD ms j 0)
-    says = rw (e, i .masked, masks-at F j h) (mask-says F j)
+  module _ {b : Bool} (h : j < length F) (e : b ≡ keptIn ms j) where
+    says : Says b (IsKept F j)
+    says = rw e (told F ms j (rw (i .masked) (masks-at F j h)))
 
-    module _ (taken : unit ≤ getD ms j 0) where
+    module _ (taken : b ≡ true) where
       next : stagesAt F (j + 1) ≡ stagesAt F j ++ (stageFor F j ∷ [])
-      next = rw (add-one j, keptAt-new F j (says .1 taken)) (map-append (stageFor F) (keptAt F j) (j ∷ []))
+      next = rw (add-one j, keptAt-new F j (says .0 taken)) (map-append (stageFor F) (keptAt F j) (j ∷ []))
 
       counts : length (stagesAt F (j + 1)) ≡ count + 1
       counts = rw next (omega (arith, length-append (stagesAt F j) (stageFor F j ∷ [])))
@@ -64,9 +68,9 @@ module _ {F ms numbers : List ℕ} {count j : ℕ} (i : Keeping F ms numbers cou
         counted = sym counts;
       }
 
-    skip : getD ms j 0 < unit → Keeping F ms numbers count (j + 1)
+    skip : b ≡ false → Keeping F ms numbers count (j + 1)
     skip left =
-        let same : keptAt F (j + 1) ≡ keptAt F j = rw (add-one j) (⊎-elim (λ new. absurd (omega (arith, says .0 new))) (keptAt-old F j) (kept-or-sum F j)) in
+        let same : keptAt F (j + 1) ≡ keptAt F j = rw (add-one j) (⊎-elim (λ new. absurd (denied says left new)) (keptAt-old F j) (kept-or-sum F j)) in
         record { few = i .few; masked = i .masked; within = omega arith; so-far = rw same (i .so-far); counted = rw same (i .counted) }
 
   done : length F ≤ j → record { numbers = numbers; count = count } ≡ staged (keptStages F)
@@ -79,8 +83,8 @@ Inv-loop columns masks numbers₀ count₀ j₀ numbers count j = Keeping column
 abbrev μ-loop : tie.MeasureT-loop
 μ-loop columns masks numbers₀ count₀ j₀ numbers count j = length columns - j
 
-room-left : (c : tie.Then1 Inv-loop μ-loop) → c .before .before .before .before .loop .count < openStages
-room-left c = room (c .before .before .before .before .loop .inv) (omega arith) (c .before .before .two-to .ensures .fits (omega arith)) (c .if1 .taken)
+room-left : (c : tie.Then1 Inv-loop μ-loop) → c .before .before .before .loop .count < openStages
+room-left c = room (c .before .before .before .loop .inv) (omega arith) (c .before .was-kept .ensures) (c .if1 .taken)
 
 masks-of-requires : tie.Need-masks-of-requires Inv-loop μ-loop
 masks-of-requires c κs = c .before .pre .room
@@ -99,20 +103,8 @@ loop-holds c =
     let F = c .before .before .before .before .args .columns .now in
     start (c .before .before .before .before .pre) (rw (c .before .before .masks-of .ensures) (take-at (masks F) _ (length F - 0) (omega (arith, masks-length F))))
 
-cast-two-to : tie.Need-cast-two-to Inv-loop μ-loop
-cast-two-to c = search needs
-
-two-to-requires : tie.Need-two-to-requires Inv-loop μ-loop
-two-to-requires c κs = search needs
-
-mul-if1 : tie.Need-mul-if1 Inv-loop μ-loop
-mul-if1 c = search needs
-
-shared-slice-read-if1 : tie.Need-shared-slice-read-if1 Inv-loop μ-loop
-shared-slice-read-if1 c = search needs
-
-cast-if1 : tie.Need-cast-if1 Inv-loop μ-loop
-cast-if1 c = fits-widen tt (c .shared-slice-known2 .given _)
+was-kept-requires : tie.Need-was-kept-requires Inv-loop μ-loop
+was-kept-requires c κs = let inv = c .before .loop .inv in omega (arith, ap length (inv .masked), masks-length (c .before .before .before .before .before .before .args .columns .now), inv .few .room)
 
 mul-numbers : tie.Need-mul-numbers Inv-loop μ-loop
 mul-numbers c = search needs
@@ -155,10 +147,10 @@ loop-less c = search needs
 
 loop-again : tie.Need-loop-again Inv-loop μ-loop
 loop-again c =
-    let inv = c .before .before .before .before .loop .inv in
-    let power = c .before .before .two-to .ensures .fits (omega arith) in
-    ⊎-elim (λ w. rw (w .3, w .4) (more inv (omega arith) power (w .0 .taken) (w .2 .ensures)))
-    (λ w. rw (w .1, w .2) (skip inv (omega arith) power (w .0 .left)))
+    let inv = c .before .before .before .loop .inv in
+    let told = c .before .was-kept .ensures in
+    ⊎-elim (λ w. rw (w .3, w .4) (more inv (omega arith) told (w .0 .taken) (w .2 .ensures)))
+    (λ w. rw (w .1, w .2) (skip inv (omega arith) told (w .0 .left)))
     (c .if1 .came)
 
 returns : tie.Need-returns Inv-loop μ-loop
@@ -175,11 +167,7 @@ kept-stages-spec =
     part-masks-start
     part-masks-end
     loop-holds
-    cast-two-to
-    two-to-requires
-    mul-if1
-    shared-slice-read-if1
-    cast-if1
+    was-kept-requires
     mul-numbers
     shared-slice-read-numbers
     mul-numbers-2

@@ -14,11 +14,11 @@ use Rattle.sheet.proofs.LayLaws.{padded-part}
 use Rattle.plan.proofs.lay_read_side.Statement.{statement}
 use Rattle.plan.proofs.lay_read_side.Tie as tie
 
-units-requires : tie.Need-units-requires
-units-requires c κs = search needs
+unit-columns-requires : tie.Need-unit-columns-requires
+unit-columns-requires c κs = search needs
 
-units-requires-2 : tie.Need-units-requires-2
-units-requires-2 c κs = search needs
+unit-columns-requires-2 : tie.Need-unit-columns-requires-2
+unit-columns-requires-2 c κs = search needs
 
 sub-lay-out : tie.Need-sub-lay-out
 sub-lay-out c = search needs
@@ -51,16 +51,16 @@ returns c ss e =
     let k : ℕ = drawn .before .before .before .before .args .k in
     c .before .before .lay-out .ensures ss e
     ∙ ap₂ (λ (A W : List ℕ). laidOut edition1 (record { addresses = A; wiring = W; stages = ss }))
-    (ap (λ (l : List ℕ). take (n - 0) l) (drawn .before .units .ensures) ∙ padded-part 16 (columns n (tickOf k)) n (sym (columns-length n (tickOf k))))
-    (ap (λ (l : List ℕ). take (k - 0) l) (drawn .units2 .ensures) ∙ padded-part 16 (columns k (tickOf 0)) k (sym (columns-length k (tickOf 0)))
+    (ap (λ (l : List ℕ). take (n - 0) l) (drawn .before .unit-columns .ensures) ∙ padded-part 16 (columns n (tickOf k)) n (sym (columns-length n (tickOf k))))
+    (ap (λ (l : List ℕ). take (k - 0) l) (drawn .unit-columns2 .ensures) ∙ padded-part 16 (columns k (tickOf 0)) k (sym (columns-length k (tickOf 0)))
     ∙ columns-same k (tickOf 0) (λ p. p) (λ j h. div-one (2 ^ j)))
 
 pub lay-read-side-spec : {M : Type 1} → statement M
 lay-read-side-spec =
     tie.close
     (tie.spec
-    units-requires
-    units-requires-2
+    unit-columns-requires
+    unit-columns-requires-2
     sub-lay-out
     part-lay-out-start
     part-lay-out-end

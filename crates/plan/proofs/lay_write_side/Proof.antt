@@ -17,7 +17,7 @@ use Rattle.maps.specs.Opened.{openWidth, padded}
 use Rattle.maps.specs.Stages.{keptStages}
 use Rattle.maps.proofs.StageLaws.{kept-count}
 use Rattle.plan.specs.Planned.{readStages, plannedRead, plannedM, plannedWrite}
-use Rattle.plan.specs.Inside.{bankThrough, Ordered, Few, staged}
+use Rattle.plan.specs.Inside.{bankThrough, Ordered, FewKept, staged}
 use Rattle.plan.proofs.ChoiceLaws.{read-layable}
 use Rattle.plan.proofs.PlannedLaws.{write-layable}
 use Rattle.plan.proofs.DrawnLaws.{addresses-drawn, wiring-drawn, ticks-drawn}
@@ -85,7 +85,7 @@ module _ (c : tie.After-banks-of) where
   wires : take (k - 0) (c .banks-of .result) ≡ W .wiring
   wires = ap (take (k - 0)) banks ∙ wiring-drawn n k C within (sound .order) read narrow
 
-  few : Few F
+  few : FewKept F
   few = record { room = omega (arith, columns-length (tickBits n k) (tickToBank k (plannedM n k C)), narrow); stages = omega (arith, write .stages, kept-count F) }
 
 kept-stages-requires : tie.Need-kept-stages-requires
@@ -155,6 +155,7 @@ lay-out-requires c κs =
     record {
       addresses = rw (addresses r) (omega (arith, write d .addresses, sound d .sized .frame .most));
       wiring = rw (wires d) (omega (arith, write d .wiring, sound d .sized .most));
+      whole = (W d .stages, stages r);
       stages = rw (stages r) (few-numbers r);
       side = start d .pre .side;
     }

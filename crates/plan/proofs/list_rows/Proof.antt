@@ -61,7 +61,7 @@ start {ms} {a} kept within =
     record { within = within; from = omega arith; to = within .from; few = omega arith; counted = rw none; front = rw none }
 
 module _ {ms : List ℕ} {a b : ℕ} {kept : Bool} {units : List ℕ} {count i : ℕ} (l : Listing ms a b kept units count i) where
-  says : {power : ℕ} → power ≡ 2 ^ i → Says (Bool·beq (leb power (getD ms i 0)) kept) (keptIn ms i ≡ kept)
+  says : {b : Bool} → b ≡ keptIn ms i → Says (Bool·beq b kept) (keptIn ms i ≡ kept)
   says e = rw e (equal-says (keptIn ms i) kept)
 
   module _ (h : i < b) {more : List ℕ} {m : ℕ} where
@@ -96,34 +96,22 @@ abbrev μ-loop : tie.MeasureT-loop
 loop-holds : tie.Need-loop-holds Inv-loop μ-loop
 loop-holds c = start _ (c .before .pre)
 
+was-kept-requires : tie.Need-was-kept-requires Inv-loop μ-loop
+was-kept-requires c κs = search needs
+
+sub-two-to : tie.Need-sub-two-to Inv-loop μ-loop
+sub-two-to c = search needs
+
 cast-two-to : tie.Need-cast-two-to Inv-loop μ-loop
 cast-two-to c = search needs
 
 two-to-requires : tie.Need-two-to-requires Inv-loop μ-loop
 two-to-requires c κs = search needs
 
-mul-was-kept : tie.Need-mul-was-kept Inv-loop μ-loop
-mul-was-kept c = search needs
-
-shared-slice-read-was-kept : tie.Need-shared-slice-read-was-kept Inv-loop μ-loop
-shared-slice-read-was-kept c = search needs
-
-cast-was-kept : tie.Need-cast-was-kept Inv-loop μ-loop
-cast-was-kept c = omega (arith, c .shared-slice-known2 .given (c .before .before .before .loop .i))
-
-sub-two-to : tie.Need-sub-two-to Inv-loop μ-loop
-sub-two-to c = search needs
-
-cast-two-to-2 : tie.Need-cast-two-to-2 Inv-loop μ-loop
-cast-two-to-2 c = search needs
-
-two-to-requires-2 : tie.Need-two-to-requires-2 Inv-loop μ-loop
-two-to-requires-2 c κs = search needs
-
 cast-units : tie.Need-cast-units Inv-loop μ-loop
 cast-units c =
-    let here = c .before .before .before .before .before in
-    omega (arith, c .two-to2 .ensures .fits (omega arith), pow-lt {i = here .loop .i - here .before .before .args .a} {j = 16} (omega arith))
+    let here = c .before .before .before .before in
+    omega (arith, c .two-to .ensures .fits (omega arith), pow-lt {i = here .loop .i - here .before .before .args .a} {j = 16} (omega arith))
 
 mul-units : tie.Need-mul-units Inv-loop μ-loop
 mul-units c = search needs
@@ -142,9 +130,9 @@ loop-less c = search needs
 
 loop-again : tie.Need-loop-again Inv-loop μ-loop
 loop-again c =
-    let inv = c .before .before .before .before .loop .inv in
-    let h = c .before .before .before .loop-test .taken in
-    let test = says inv (c .before .before .two-to .ensures .fits (omega arith)) in
+    let inv = c .before .before .before .loop .inv in
+    let h = c .before .before .loop-test .taken in
+    let test = says inv (c .before .was-kept .ensures) in
     ⊎-elim (λ w. add inv h (test .0 (w .0 .taken)) (w .1 .ensures .fits (omega arith)) (w .2) (w .3)) (λ w. pass inv h (denied test (w .0 .left)) (w .1) (w .2))
     (c .if1 .came)
 
@@ -158,14 +146,10 @@ list-rows-spec =
     Inv-loop
     μ-loop
     loop-holds
+    was-kept-requires
+    sub-two-to
     cast-two-to
     two-to-requires
-    mul-was-kept
-    shared-slice-read-was-kept
-    cast-was-kept
-    sub-two-to
-    cast-two-to-2
-    two-to-requires-2
     cast-units
     mul-units
     array-write-units

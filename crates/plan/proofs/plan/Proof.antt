@@ -13,7 +13,7 @@ use Rattle.kinds.specs.declared.Answer.the-variants.{Done}
 use Rattle.kinds.proofs.TruthLaws.{denied}
 use Rattle.kinds.proofs.AnswerLaws.{refuses, does}
 use Rattle.order.proofs.TableLaws.{order-sound}
-use Rattle.plan.specs.Tool.{planLengths, planTable, Planned}
+use Rattle.plan.specs.Tool.{planLengths, planTable, IsPlanned}
 use Rattle.plan.specs.Inside.{Plannable}
 use Rattle.plan.proofs.PlannedLaws.{planned}
 use Rattle.plan.proofs.plan.Statement.{statement}
@@ -68,7 +68,7 @@ returns-2 c =
     let checked = written .before .before .before in
     let yes-done = not-false _ (written .before .before .if1 .left) in
     let s = sound checked yes-done .ordered in
-    does (done checked yes-done) (says checked) (subst (Planned edition1 (n checked) (k checked) (C checked)) (sym (written .write-sheet .ensures)) (planned (s .sized) (s .order) (omega arith)))
+    does (done checked yes-done) (says checked) (subst (IsPlanned edition1 (n checked) (k checked) (C checked)) (sym (written .write-sheet .ensures)) (planned (s .sized) (s .order) (omega arith)))
 
 pub plan-spec : {M : Type 1} → statement M
 plan-spec =

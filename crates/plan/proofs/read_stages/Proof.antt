@@ -12,7 +12,7 @@ use Rattle.span.proofs.RowLaws.{rows-length}
 use Rattle.order.specs.Parts.{rowsP1, rowsP3}
 use Rattle.sheet.proofs.LayLaws.{padded-at, padded-length, padded-part}
 use Rattle.maps.specs.Opened.{openWidth, padded}
-use Rattle.plan.specs.Planned.{otherRows, keptRows, pairs, readStages}
+use Rattle.plan.specs.Planned.{othersOfP1, keptOfP3, pairs, readStages}
 use Rattle.plan.specs.Inside.{staged, unitsOf}
 use Rattle.plan.proofs.ChoiceLaws.{other-rows, kept-rows}
 use Rattle.plan.proofs.ListedLaws.{rows-together, others-listed, kept-listed}
@@ -94,43 +94,43 @@ module _ (c : tie.After-list-rows2) where
       ∙ padded-at openWidth (masks scanned) i
       ∙ masks-at scanned i (rw all h)
 
-  others : c .before .before .list-rows .result ≡ unitsOf (otherRows k C)
+  others : c .before .before .list-rows .result ≡ unitsOf (othersOfP1 k C)
   others = c .before .before .list-rows .ensures ∙ ap unitsOf (others-listed n k C within (start .pre .order .count) found masked)
 
-  kept : c .list-rows2 .result ≡ unitsOf (keptRows n k C)
+  kept : c .list-rows2 .result ≡ unitsOf (keptOfP3 n k C)
   kept = c .list-rows2 .ensures ∙ ap unitsOf (kept-listed n k C within (start .pre .order .count) found masked)
 
   abbrev count : ℕ
   count = c .before .before .list-rows .result .count
 
-  directions : count ≡ length (units (otherRows k C))
-  directions = ap (λ r. r .count) others ∙ sym (length-map (otherRows k C) (λ i. 2 ^ i))
+  directions : count ≡ length (units (othersOfP1 k C))
+  directions = ap (λ r. r .count) others ∙ sym (length-map (othersOfP1 k C) (λ i. 2 ^ i))
 
-  controls : count ≡ length (units (keptRows n k C))
+  controls : count ≡ length (units (keptOfP3 n k C))
   controls =
       omega (
         arith,
         directions,
-        length-map (otherRows k C) (λ i. 2 ^ i),
-        length-map (keptRows n k C) (λ j. 2 ^ j),
+        length-map (othersOfP1 k C) (λ i. 2 ^ i),
+        length-map (keptOfP3 n k C) (λ j. 2 ^ j),
         other-rows k C,
         kept-rows k within (start .pre .order),
       )
 
   few : count ≤ 5
-  few = omega (arith, directions, length-map (otherRows k C) (λ i. 2 ^ i), other-rows k C, start .pre .sized .most)
+  few = omega (arith, directions, length-map (othersOfP1 k C) (λ i. 2 ^ i), other-rows k C, start .pre .sized .most)
 
   wide : (length (c .before .before .list-rows .result .units) ≡ openWidth) × (length (c .list-rows2 .result .units) ≡ openWidth)
   wide = (
-    ap (λ r. length (r .units)) others ∙ padded-length openWidth (units (otherRows k C)) (omega (arith, few, directions)),
-    ap (λ r. length (r .units)) kept ∙ padded-length openWidth (units (keptRows n k C)) (omega (arith, few, controls)),
+    ap (λ r. length (r .units)) others ∙ padded-length openWidth (units (othersOfP1 k C)) (omega (arith, few, directions)),
+    ap (λ r. length (r .units)) kept ∙ padded-length openWidth (units (keptOfP3 n k C)) (omega (arith, few, controls)),
   )
 
-  first : take (count - 0) (c .before .before .list-rows .result .units) ≡ units (otherRows k C)
-  first = ap (λ r. take (count - 0) (r .units)) others ∙ padded-part openWidth (units (otherRows k C)) count directions
+  first : take (count - 0) (c .before .before .list-rows .result .units) ≡ units (othersOfP1 k C)
+  first = ap (λ r. take (count - 0) (r .units)) others ∙ padded-part openWidth (units (othersOfP1 k C)) count directions
 
-  second : take (count - 0) (c .list-rows2 .result .units) ≡ units (keptRows n k C)
-  second = ap (λ r. take (count - 0) (r .units)) kept ∙ padded-part openWidth (units (keptRows n k C)) count controls
+  second : take (count - 0) (c .list-rows2 .result .units) ≡ units (keptOfP3 n k C)
+  second = ap (λ r. take (count - 0) (r .units)) kept ∙ padded-part openWidth (units (keptOfP3 n k C)) count controls
 
   stages : staged (pairs (take (count - 0) (c .before .before .list-rows .result .units)) (take (count - 0) (c .list-rows2 .result .units))) ≡ staged (readStages n k C)
   unfolding readStages

@@ -86,6 +86,7 @@ lay-read-side-requires c κs =
     let r = c .before .before .before .before .before in
     record {
       sized = sound r .sized;
+      whole = (readStages (n r) (k r) (C r), numbers r);
       stages = omega (arith, ap length (numbers r), flat-length (readStages (n r) (k r) (C r)), few r);
       side = simp (length-take, length-drop) (omega (arith, start r .pre .places));
     }

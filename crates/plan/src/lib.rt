@@ -227,6 +227,7 @@ fn ticks_of(places: &[u16], k: u32) -> [u16; WIDTH]
     ticks
 }
 
+// The bank starts as the port, since the read side's wiring is the identity.
 fn banks_of(places: &[u16], k: u32, stages: &[u16]) -> [u16; WIDTH]
     requires { ⌜ Shiftable k (now places) ⌝ }
     ensures { λ r. ⌜ r ≡ padded (map (bankThrough k (now (stages .entry))) (now (places .entry))) ⌝ }

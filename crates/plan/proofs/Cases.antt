@@ -17,6 +17,7 @@ use Rattle.sheet.specs.Sheet.{flat}
 use Rattle.sheet.proofs.Cases.{reversal}
 use Rattle.maps.specs.Cells.{afterStages}
 use Rattle.maps.specs.Stages.{keptStages}
+use Rattle.promise.proofs.Cases.{gray, identity, turning, one-tick}
 use Rattle.plan.specs.Planned.{othersOfP1, portsToZero, keptOfP3, pairs, readStages, plannedRead, plannedWrite, plannedSheet}
 
 computed : Unit {0}
@@ -34,10 +35,13 @@ planned-stages : map stages (
 unfolding computed
 planned-stages = refl
 
--- n 3, k 1, bit reversal: write addresses 2 1 0, read addresses 0 1 2, wirings 1
-reversed : plannedSheet edition1 3 1 (4 ∷ 2 ∷ 1 ∷ []) ≡ reversal
+-- the sheets that were judged and run: bit reversal (write addresses 2 1 0, read addresses 0 1 2, wirings 1), the identity, Gray code, columns 2 3, and one tick
+planned-sheets : map (λ (n, k, C). plannedSheet edition1 n k C) (
+    (3, 1, 4 ∷ 2 ∷ 1 ∷ []) ∷ (2, 1, 1 ∷ 2 ∷ []) ∷ (2, 1, 1 ∷ 3 ∷ []) ∷ (2, 1, 2 ∷ 3 ∷ []) ∷ (2, 2, 2 ∷ 1 ∷ []) ∷ []
+    )
+    ≡ reversal ∷ identity ∷ gray ∷ turning ∷ one-tick ∷ []
 unfolding computed
-reversed = refl
+planned-sheets = refl
 
 -- n 4, k 2, columns 5 8 1 2: P1 sends ports 0 and 2 to 0, and on these row 0 of P3 vanishes
 restricted : (keptOfP3 4 2 (5 ∷ 8 ∷ 1 ∷ 2 ∷ []) ≡ 1 ∷ []) × (keptAt (rowsP3 4 2 (5 ∷ 8 ∷ 1 ∷ 2 ∷ [])) 2 ≡ 0 ∷ 1 ∷ [])

@@ -1,4 +1,5 @@
 -- The meanings on sheets of 01: 6 to 9 of passed and of wrong sheets; what series of calls hand out; and how the wrong sheets show.
+--   gray, identity, turning, one-tick     sheets that pass, each for its own order
 use Prim.Native.Nat.{ℕ}
 use mathlib.Core.Path.{_≡_, refl}
 use mathlib.Core.List.{List, [], _∷_, _++_, map, flatten}
@@ -40,13 +41,13 @@ abbrev one-stage : List ℕ
 one-stage = 1 ∷ 1 ∷ 1 ∷ zeros 14
 
 -- at n 2, k 1: the sheets planned for Gray code, for the identity, and for the columns 2 3, whose inverse is 3 1
-abbrev gray : List ℕ
+abbrev pub gray : List ℕ
 gray = side 0 1 1 one-stage ++ side 0 1 1 no-stage
 
-abbrev identity : List ℕ
+abbrev pub identity : List ℕ
 identity = side 0 1 1 no-stage ++ side 0 1 1 no-stage
 
-abbrev turning : List ℕ
+abbrev pub turning : List ℕ
 turning = side 1 1 1 no-stage ++ side 0 1 1 one-stage
 
 -- a sheet with both maps singular
@@ -54,7 +55,7 @@ abbrev singular : List ℕ
 singular = side 0 0 1 no-stage ++ side 0 0 1 no-stage
 
 -- at n 2, k 2: the one for the columns 2 1
-abbrev one-tick : List ℕ
+abbrev pub one-tick : List ℕ
 one-tick = zeros 10 ++ (2 ∷ 1 ∷ zeros 20) ++ zeros 10 ++ (1 ∷ 2 ∷ zeros 20)
 
 abbrev verdict : ℕ × ℕ × List ℕ × List ℕ → ℕ

@@ -1,32 +1,35 @@
 -- The image under columns is a linear map, and every linear map of n bits is the image under its columns.
 --   below-one, below-append    lists of numbers below a bound
 --   image-nil, image-cons      the definition, as equations
---   chosen-zero, chosen-xor, chosen-lt, linear-chosen    choosing by a bit makes nothing of 0, passes through exclusive or, keeps a bound, and passes through a linear map
 --   image-zero          the image of 0
+--   chosen-zero, chosen-xor    choosing by a bit makes nothing of 0, and passes through exclusive or
 --   image-xor           the image is linear
 --   image-unit          the image of 2^j is column j
+--   chosen-lt           choosing by a bit keeps a bound
 --   image-lt            columns of m bits give images of m bits
 --   image-append        the columns of a second list take the bits above the first list's
 --   image-prefix        a number with no such bits needs no second list
 --   image-snoc          one column more
 --   image-mod           bits above the columns choose nothing
 --   linear-zero         a linear map sends 0 to 0
+--   linear-chosen       and passes through choosing by a bit
 --   linear-map          a linear map takes sums of columns to sums of their values
 --   image-image         the columns of B after A are the images of A's columns
 --   columns-length, columns-at    there are n columns, and column j is the value at 2^j
 --   columns-below       values of m bits give columns of m bits
 --   columns-image       the columns of an image are the columns
---   columns-same        maps that agree at each 2^j have the same columns
 --   linear-image        a linear map on the numbers of n bits is the image under its columns
---   same-image          columns that show the same numbers have the same images
+--   image-identity, image-shifted    so the columns of the identity give each number itself, and those of a shift the shifted number
+--   columns-same        maps that agree at each 2^j have the same columns
 --   linear-agree        two linear maps that agree at 2^0 .. 2^(n-1) agree on all numbers of n bits
+--   same-image          columns that show the same numbers have the same images
 use Prim.Native.Nat.{ℕ, zero, suc, _+_, _*_, _/_, _%_, _^_, _<_}
 use mathlib.Core.Path.{_≡_, refl, sym, ap, ap₂, _∙_}
 use mathlib.Core.List.{List, [], _∷_, _++_, map}
 use mathlib.Core.Logic.{_⊎_, inl, inr, ⊎-elim}
 use native.Mathlib.Omega.{arith}
 use native.Mathlib.Nat.{pow-suc, div-eq-of-lt}
-use lib.Bits.{bitXor, xor-zero-r, xor-lt, xor-self}
+use lib.Bits.{bitXor, xor-zero-r, xor-lt, xor-self, xor-shr}
 use lib.ListN.{length, getD}
 use lib.Arith.{lt-one}
 use lib.Pow.{pow-pos, shr-shr, field, mod-mod-pow}
@@ -169,6 +172,12 @@ linear-image (suc n) f l x h =
     ∙ l (x % 2) (2 * (x / 2))
     ∙ ap₂ bitXor (ap f (low-chosen x) ∙ linear-chosen f l (x % 2) 1)
     (linear-image n (λ y. f (2 * y)) (linear-double f l) (x / 2) (omega (arith, pow-suc 2 n)))
+
+pub image-identity : (k p : ℕ) → p < 2 ^ k → image (columns k (λ p. p)) p ≡ p
+image-identity k p h = sym (linear-image k (λ p. p) (λ x y. refl) p h)
+
+pub image-shifted : (n a x : ℕ) → x < 2 ^ n → image (columns n (λ x. x / 2 ^ a)) x ≡ x / 2 ^ a
+image-shifted n a x h = sym (linear-image n (λ x. x / 2 ^ a) (λ x y. xor-shr x y a) x h)
 
 pub columns-same : (n : ℕ) (f g : ℕ → ℕ) → ((j : ℕ) → j < n → f (2 ^ j) ≡ g (2 ^ j)) → columns n f ≡ columns n g
 columns-same n f g same =

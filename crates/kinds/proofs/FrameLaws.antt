@@ -3,10 +3,11 @@
 --   tick-lt             a word of a frame comes on one of its 2^t ticks
 --   port-lt             a word comes at one of 2^k ports
 --   word-lt             a tick and a port of a frame make a word of it
---   in-order-length     there are m of them
+--   tick-unit           2^j is the word of tick 2^(j-k) at port 0
+--   in-order-length     m values in order are m
 --   in-order-at         the value at a place below m is that of the place
 --   in-order-is         a list of m values that are these is this one
-use Prim.Native.Nat.{ℕ, zero, suc, _*_, _^_, _<_, _≤_}
+use Prim.Native.Nat.{ℕ, zero, suc, _-_, _*_, _^_, _<_, _≤_}
 use mathlib.Core.Path.{_≡_, refl, sym, ap, _∙_}
 use mathlib.Core.List.{List}
 use native.Mathlib.Nat.{div-lt-iff-lt-mul, mod-lt}
@@ -28,6 +29,9 @@ port-lt k i = mod-lt i (pow-pos k)
 
 pub word-lt : {n k c p : ℕ} → k ≤ n → c < ticks n k → p < 2 ^ k → wordAt k c p < 2 ^ n
 word-lt within tick port = rw (← frame-whole within) (digits-lt tick port)
+
+pub tick-unit : {k j : ℕ} → k ≤ j → wordAt k (2 ^ (j - k)) 0 ≡ 2 ^ j
+tick-unit h = omega (arith, frame-whole h)
 
 module _ {A : Type 0} where
   pub in-order-length : (m : ℕ) (f : ℕ → A) → length (inOrder m f) ≡ m

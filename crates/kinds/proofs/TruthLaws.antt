@@ -1,13 +1,14 @@
 -- A bool that says whether a statement holds, and statements that are decided.
 --   false≢true      anything follows from it
+--   stable          a decided statement holds if it can't fail
 --   says-no         false says whether a statement holds that does not
 --   says-yes        true says whether one holds that does
 --   denied          where the bool is false, the statement does not hold
---   stable          a decided statement holds if it can't fail
 --   says-same       two bools that say it of one statement are equal
+--   equal-says      comparing two bools says whether they are equal
 use Prim.Native.Nat.{ℕ}
 use mathlib.Core.Path.{_≡_, refl, sym, _∙_}
-use mathlib.Core.Bool.{Bool, true, false}
+use mathlib.Core.Bool.{Bool, true, false, Bool·beq}
 use native.Mathlib.Omega.{arith}
 use Rattle.kinds.specs.Answers.{Says}
 
@@ -33,3 +34,9 @@ module _ {P : Type 0} where
   says-same true false p o = sym (o .1 (p .0 refl))
   says-same false true p o = p .1 (o .0 refl)
   says-same false false p o = refl
+
+pub equal-says : (b c : Bool) → Says (Bool·beq b c) (b ≡ c)
+equal-says true true = says-yes refl
+equal-says true false = says-no (λ e. false≢true (sym e))
+equal-says false true = says-no false≢true
+equal-says false false = says-yes refl

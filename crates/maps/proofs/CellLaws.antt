@@ -1,23 +1,24 @@
 -- Laws of a side's map.
 --   after-append        stages after stages
 --   stages-sum          what stages do to a bank: they xor in the selected directions
+--   stages-made         stages that make up each column of a linear map of tick bits make up the map
 --   bank-parts          the bank of a word: what the wiring makes of its port, and the stages of its tick
 --   same-bank           two words of one tick share a bank exactly when the wiring sends their ports to one bank
---   bank-lt, address-lt, cell-lt    banks, addresses and cells are below 2^k, 2^t and 2^n
---   bank-of-cell, address-of-cell   a cell number has the bank and the address of the word that is there
 --   cell-word           the cell of the word at a tick and port is the map's
---   cell-linear         a side's map is linear
---   maps-linear         so M and N are, of a sheet that keeps the layout
---   cell-columns        being linear, a side's map is the image under its columns
---   cell-bijection      it is a bijection of the words and the cells exactly when its columns are independent
+--   port-column, tick-column        the columns of a side's map, one by one
+--   bank-lt, address-lt             banks and addresses are below 2^k and 2^t
+--   bank-of-cell, address-of-cell   a cell number has the bank and the address of the word that is there
 --   word-bank           the bank of the cell that the map gives a word
 --   wiring-part         its port-to-bank part is the wiring
 --   stages-part         its tick-to-bank part is the stages'
---   stages-made         stages that make up each column of a linear map of tick bits make up the map
---   tick-unit           2^j is the word of tick 2^(j-k) at port 0
---   port-column, tick-column    the columns of a side's map, one by one
---   column-beyond       beyond the nth they would be 0
+--   cell-lt             cells are below 2^n
+--   cell-into           so a side's map goes into 2^n cells
+--   cell-linear         a side's map is linear
+--   cell-columns        so it is the image under its columns
+--   cell-bijection      it is a bijection of the words and the cells exactly when its columns are independent
+--   column-beyond       beyond the nth its columns would be 0
 --   cell-double         one port bit more: one exclusive or
+--   maps-linear         M and N are linear, of a sheet that keeps the layout
 use Prim.Native.Nat.{ℕ, zero, suc, _+_, _-_, _*_, _/_, _%_, _^_, _<_, _≤_}
 use mathlib.Core.Path.{_≡_, refl, sym, ap, ap₂, _∙_}
 use mathlib.Core.List.{List, [], _∷_, _++_}
@@ -27,10 +28,10 @@ use native.Mathlib.Omega.{arith}
 use lib.Arith.{digits-lt}
 use lib.Bits.{bitXor, xor-zero-r, xor-comm, xor-lt, xor-block, xor-shr, xor-mod}
 use lib.ListN.{length, getD, List·getD-eq-default}
-use lib.Pow.{pow-pos, pow-lt, pow-mono, pow-add, lt-of-le-ones, split, high, low}
+use lib.Pow.{pow-pos, pow-lt, pow-mono, lt-of-le-ones, split, high, low}
 use Rattle.kinds.specs.Edition.{Edition}
 use Rattle.kinds.specs.Frame.{tickBits, tickOf, portOf, wordAt, addressOf, bankOf}
-use Rattle.kinds.proofs.FrameLaws.{frame-whole}
+use Rattle.kinds.proofs.FrameLaws.{frame-whole, tick-unit}
 use Rattle.bits.specs.Image.{chosen, image, AllBelow, Linear}
 use Rattle.bits.specs.Parity.{dot}
 use Rattle.bits.proofs.XorLaws.{xor-above, xor-assoc, xor-swap, xor-cancel}
@@ -119,9 +120,6 @@ selected-beyond b t m (s ∷ ss) each h =
     let even : dot (s .control) (2 ^ m) ≡ 0 = dot-unit m (s .control) ∙ ap (λ (x : ℕ). x % 2) (div-eq-of-lt small) in
     selected-cons s ss (2 ^ m) ∙ rw even (selected-beyond b t m ss (each .1) h)
 
-pub tick-unit : {k j : ℕ} → k ≤ j → wordAt k (2 ^ (j - k)) 0 ≡ 2 ^ j
-tick-unit {k} {j} h = omega (arith, pow-add 2 (j - k) k, ap (λ (x : ℕ). 2 ^ x) (let e : (j - k) + k ≡ j = omega arith in e))
-
 module _ (k : ℕ) (S : Side) where
   pub cell-word : (c p : ℕ) → p < 2 ^ k → cellAt k S c p ≡ cellOf k S (wordAt k c p)
   cell-word c p h = sym (ap₂ (cellAt k S) (high c k h) (low c k h))
@@ -182,6 +180,9 @@ module _ {n k : ℕ} {S : Side} (used : InRange n k S) where
   pub cell-lt : k ≤ n → (c p : ℕ) → cellAt k S c p < 2 ^ n
   cell-lt within c p = omega (arith, digits-lt (address-lt c p) (bank-lt c p), frame-whole within)
 
+  pub cell-into : k ≤ n → (i : ℕ) → cellOf k S i < 2 ^ n
+  cell-into within i = cell-lt within (tickOf k i) (portOf k i)
+
   pub cell-linear : Linear (cellOf k S)
   cell-linear x y =
       ap₂ (λ (a b : ℕ). a * 2 ^ k + b) address bank
@@ -207,7 +208,7 @@ module _ {n k : ℕ} {S : Side} (used : InRange n k S) where
       count = columns-length n (cellOf k S)
 
       below : AllBelow (2 ^ n) (cellColumns n k S)
-      below = columns-below n (2 ^ n) (cellOf k S) (λ j h. cell-lt within (tickOf k (2 ^ j)) (portOf k (2 ^ j)))
+      below = columns-below n (2 ^ n) (cellOf k S) (λ j h. cell-into within (2 ^ j))
 
   pub column-beyond : k ≤ n → length (S .addresses) ≡ n → (j : ℕ) → n ≤ j → cellOf k S (2 ^ j) ≡ 0
   column-beyond within count j h =

@@ -15,7 +15,7 @@ use lib.ListN.{length, getD, length-map, List·getD-map}
 use lib.Pow.{pow-pos, pow-lt, le-ones, split}
 use Rattle.kinds.specs.Edition.{Edition}
 use Rattle.kinds.specs.Frame.{tickBits, wordAt, addressOf, bankOf}
-use Rattle.kinds.proofs.FrameLaws.{tick-lt, port-lt}
+use Rattle.kinds.proofs.FrameLaws.{tick-lt, port-lt, tick-unit}
 use Rattle.bits.specs.Image.{image, columns, AllBelow, Linear}
 use Rattle.bits.specs.Parity.{bit, dot}
 use Rattle.bits.proofs.ImageLaws.{image-xor, image-unit, linear-zero, linear-agree, columns-length, columns-at, columns-below}
@@ -33,7 +33,7 @@ use Rattle.sheet.specs.Sheet.{Stage, Side}
 use Rattle.sheet.specs.Layout.{StageInRange, EachStage, InRange, Layable}
 use Rattle.maps.specs.Cells.{portToBank, tickToBank, afterStages, cellOf}
 use Rattle.maps.specs.Stages.{directions, controls, selected, keptStages, sideFor}
-use Rattle.maps.proofs.CellLaws.{stages-sum, stages-made, cell-linear, tick-unit, port-column, tick-column}
+use Rattle.maps.proofs.CellLaws.{stages-sum, stages-made, cell-linear, port-column, tick-column}
 
 pub stages-rank : (k : ℕ) (ss : List Stage) (f : ℕ → ℕ) → rank (columns k (λ p. selected ss (f p))) ≤ length ss
 stages-rank k ss f =

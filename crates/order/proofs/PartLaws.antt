@@ -3,14 +3,15 @@
 --   P1-linear, P2-linear, P3-linear, P4-linear    each part is linear
 --   P1-into, P2-into, P3-into, P4-into            and sends port bits or tick bits to port bits or tick bits
 --   rowsOf-dot             row r of a linear map is bit r of its result
---   rowsOf-dots            all rows make of x what the map does
+--   rowsOf-length          there are as many rows as its result has bits
 --   rowsOf-below           the rows of a map of l bits have l bits
+--   rowsOf-dots            all rows make of x what the map does
 use Prim.Native.Nat.{ℕ, _+_, _^_, _<_, _≤_}
 use mathlib.Core.Path.{_≡_, sym, ap, ap₂, _∙_}
 use mathlib.Core.List.{List}
 use native.Mathlib.Omega.{arith}
 use lib.Bits.{bitXor, xor-zero-r, xor-block, xor-shr, xor-mod}
-use lib.ListN.{getD}
+use lib.ListN.{length, getD}
 use lib.Pow.{pow-pos, pow-lt, shr-lt, split}
 use Rattle.kinds.proofs.FrameLaws.{port-lt}
 use Rattle.kinds.specs.Frame.{tickBits, tickOf, portOf, wordAt}
@@ -19,7 +20,7 @@ use Rattle.bits.specs.Parity.{bit, dot}
 use Rattle.bits.proofs.ImageLaws.{image-xor, image-lt, linear-image, columns-below, columns-length}
 use Rattle.span.specs.Maps.{Into}
 use Rattle.span.specs.Rows.{dots}
-use Rattle.span.proofs.RowLaws.{row-dot, rows-below, rows-image}
+use Rattle.span.proofs.RowLaws.{row-dot, rows-length, rows-below, rows-image}
 use Rattle.order.specs.Order.{place, Order}
 use Rattle.order.specs.Parts.{P1, P2, P3, P4, rowsOf}
 
@@ -94,6 +95,9 @@ pub rowsOf-dot : (m l : ℕ) (f : ℕ → ℕ) → Linear f → Into f (2 ^ l) (
 rowsOf-dot m l f linear into r x h b =
     row-dot m (columns l f) (columns-below l (2 ^ m) f (λ j g. into (2 ^ j) (pow-lt g))) x r h
     ∙ ap (bit r) (sym (linear-image l f linear x b))
+
+pub rowsOf-length : (m l : ℕ) (f : ℕ → ℕ) → length (rowsOf m l f) ≡ m
+rowsOf-length m l f = rows-length m (columns l f)
 
 pub rowsOf-below : (m l : ℕ) (f : ℕ → ℕ) → AllBelow (2 ^ l) (rowsOf m l f)
 rowsOf-below m l f = rw columns-length at (rows-below m (columns l f))

@@ -1,20 +1,19 @@
 -- The write side's columns, one by one, from the order's (M = N P).
---   address-column, bank-column     the address and the bank of the cell that M gives word 2^j
---   addresses-drawn                 the address columns are the ticks of the order's columns
---   wiring-drawn                    the wiring is the banks of the first k of them, through the read stages
---   ticks-drawn                     the tick-to-bank part is the banks of the others
+--   addresses-drawn     the address columns are the ticks of the order's columns
+--   wiring-drawn        the wiring is the banks of the first k of them, through the read stages
+--   tick-part-drawn     the tick-to-bank part is the banks of the others
 use Prim.Native.Nat.{ℕ, _+_, _-_, _/_, _^_, _<_, _≤_}
-use mathlib.Core.Path.{_≡_, refl, sym, ap, _∙_}
+use mathlib.Core.Path.{_≡_, sym, ap, _∙_}
 use mathlib.Core.List.{List, map}
+use native.Mathlib.Nat.{add-sub-cancel-left}
 use native.Mathlib.Omega.{arith}
 use lib.ListN.{length, getD, take, drop, length-map, length-take, length-drop}
 use lib.Pow.{pow-add, split}
-use lib.Bits.{xor-shr}
 use lib.Seq.{getD-take, getD-drop, ext-getD}
 use Rattle.kinds.specs.Frame.{tickBits, tickOf, portOf, wordAt, addressOf, bankOf}
-use Rattle.kinds.proofs.FrameLaws.{port-lt}
+use Rattle.kinds.proofs.FrameLaws.{port-lt, tick-unit}
 use Rattle.bits.specs.Image.{image, columns}
-use Rattle.bits.proofs.ImageLaws.{image-unit, image-lt, linear-image, columns-length, columns-at}
+use Rattle.bits.proofs.ImageLaws.{image-unit, image-lt, image-identity, image-shifted, columns-length, columns-at}
 use Rattle.span.proofs.ScanLaws.{map-at}
 use Rattle.order.specs.Order.{place, Order}
 use Rattle.sheet.specs.Sheet.{Stage, stagesIn, flat}
@@ -33,12 +32,13 @@ module _ (n k : ℕ) (C : List ℕ) (within : k ≤ n) (order : Order n C) (read
   abbrev G : List ℕ
   G = flat (readStages n k C)
 
-  pub address-column : (j : ℕ) → addressOf k (f (2 ^ j)) ≡ tickOf k (getD C j 0)
+  -- the address and the bank of the cell that M gives word 2^j
+  address-column : (j : ℕ) → addressOf k (f (2 ^ j)) ≡ tickOf k (getD C j 0)
   address-column j =
       let x : ℕ = place C (2 ^ j) in
       address-of-cell read (tickOf k x) (portOf k x)
       ∙ ap (image (columns n (tickOf k))) (split x k)
-      ∙ sym (linear-image n (tickOf k) (λ a b. xor-shr a b k) x (image-lt n C (order .below) (2 ^ j)))
+      ∙ image-shifted n k x (image-lt n C (order .below) (2 ^ j))
       ∙ ap (tickOf k) (image-unit C j)
 
   same-stages : stagesIn (length G / 2) G ≡ readStages n k C
@@ -46,11 +46,11 @@ module _ (n k : ℕ) (C : List ℕ) (within : k ≤ n) (order : Order n C) (read
       let ss = readStages n k C in
       ap (λ (m : ℕ). stagesIn m G) {x = length G / 2} {y = length ss} (omega (arith, flat-length ss)) ∙ flat-stages ss
 
-  pub bank-column : (j : ℕ) → bankOf k (f (2 ^ j)) ≡ bankThrough k G (getD C j 0)
+  bank-column : (j : ℕ) → bankOf k (f (2 ^ j)) ≡ bankThrough k G (getD C j 0)
   bank-column j =
       let x : ℕ = place C (2 ^ j) in
       bank-of-cell read (tickOf k x) (portOf k x)
-      ∙ ap (afterStages (readStages n k C) (tickOf k x)) (sym (linear-image k (λ p. p) (λ a b. refl) (portOf k x) (port-lt k x)))
+      ∙ ap (afterStages (readStages n k C) (tickOf k x)) (image-identity k (portOf k x) (port-lt k x))
       ∙ ap (λ (ss : List Stage). afterStages ss (tickOf k x) (portOf k x)) (sym same-stages)
       ∙ ap (bankThrough k G) (image-unit C j)
 
@@ -89,7 +89,7 @@ module _ (n k : ℕ) (C : List ℕ) (within : k ≤ n) (order : Order n C) (read
         ∙ part-drawn 0 k (portToBank k f) (omega arith) room
         (λ j. ap (λ (x : ℕ). bankOf k (f x)) (let e : wordAt k 0 (2 ^ j) ≡ 2 ^ (0 + j) = omega (arith, pow-add 2 0 j) in e))
 
-    pub ticks-drawn : take (n - k) (drop k (padded banks)) ≡ columns (tickBits n k) (tickToBank k f)
-    ticks-drawn =
+    pub tick-part-drawn : take (n - k) (drop k (padded banks)) ≡ columns (tickBits n k) (tickToBank k f)
+    tick-part-drawn =
         part-drawn k (n - k) (tickToBank k f) (omega arith) room
-        (λ j. ap (λ (x : ℕ). bankOf k (f x)) (let e : wordAt k (2 ^ j) 0 ≡ 2 ^ (k + j) = omega (arith, pow-add 2 k j) in e))
+        (λ j. ap (λ (x : ℕ). bankOf k (f x)) (rw (add-sub-cancel-left k j) at (tick-unit {k = k} {j = k + j} (omega arith))))

@@ -4,10 +4,10 @@
 --   pairs-range     units of port bits and of tick bits make stages in range
 --   pairs-selected  what the stages make of a tick: the sum of the directions that its controls select
 use Prim.Native.Nat.{ℕ, zero, suc, _*_, _<_, _^_}
-use mathlib.Core.Path.{_≡_, refl, ap, ap₂}
+use mathlib.Core.Path.{_≡_, refl, sym, ap, ap₂, _∙_}
 use mathlib.Core.List.{List, [], _∷_}
 use native.Mathlib.Omega.{arith}
-use lib.ListN.{length, getD}
+use lib.ListN.{length, getD, length-map}
 use lib.Pow.{pow-pos, pow-lt}
 use Rattle.bits.specs.Image.{image, AllBelow}
 use Rattle.span.specs.Scan.{units}
@@ -20,11 +20,16 @@ use Rattle.plan.specs.Planned.{pairs}
 double : (s : ℕ) → 2 * suc s ≡ suc (suc (2 * s))
 double s = omega arith
 
-pub pairs-length : (ds cs : List ℕ) → length cs ≡ length ds → length (pairs ds cs) ≡ length ds
+pairs-parts : (ds cs : List ℕ) → length cs ≡ length ds → (directions (pairs ds cs) ≡ ds) × (controls (pairs ds cs) ≡ cs)
 unfolding pairs
-pairs-length [] cs alike = refl
-pairs-length (d ∷ ds) [] alike = alike
-pairs-length (d ∷ ds) (c ∷ cs) alike = ap suc (pairs-length ds cs (omega arith))
+pairs-parts [] [] e = (refl, refl)
+pairs-parts [] (c ∷ cs) e = absurd (omega arith)
+pairs-parts (d ∷ ds) [] e = absurd (omega arith)
+pairs-parts (d ∷ ds) (c ∷ cs) e =
+    let rest = pairs-parts ds cs (omega arith) in (ap (λ (l : List ℕ). d ∷ l) (rest .0), ap (λ (l : List ℕ). c ∷ l) (rest .1))
+
+pub pairs-length : (ds cs : List ℕ) → length cs ≡ length ds → length (pairs ds cs) ≡ length ds
+pairs-length ds cs alike = sym (length-map (pairs ds cs) (λ s. s .direction)) ∙ ap length (pairs-parts ds cs alike .0)
 
 pub pairs-at : (ds cs : List ℕ) (s : ℕ) → length cs ≡ length ds → s < length ds
     → (getD ds s 0 ≡ getD (flat (pairs ds cs)) (2 * s) 0) × (getD cs s 0 ≡ getD (flat (pairs ds cs)) (suc (2 * s)) 0)
@@ -42,14 +47,6 @@ pairs-range k t (i ∷ is) (j ∷ js) ports ticks = (
   omega (arith, pow-pos i, pow-lt (ports 0 (omega arith)), pow-pos j, pow-lt (ticks 0 (omega arith))),
   pairs-range k t is js (λ l h. ports (suc l) (omega arith)) (λ l h. ticks (suc l) (omega arith)),
 )
-
-pairs-parts : (ds cs : List ℕ) → length cs ≡ length ds → (directions (pairs ds cs) ≡ ds) × (controls (pairs ds cs) ≡ cs)
-unfolding pairs
-pairs-parts [] [] e = (refl, refl)
-pairs-parts [] (c ∷ cs) e = absurd (omega arith)
-pairs-parts (d ∷ ds) [] e = absurd (omega arith)
-pairs-parts (d ∷ ds) (c ∷ cs) e =
-    let rest = pairs-parts ds cs (omega arith) in (ap (λ (l : List ℕ). d ∷ l) (rest .0), ap (λ (l : List ℕ). c ∷ l) (rest .1))
 
 pub pairs-selected : (ds cs : List ℕ) → length cs ≡ length ds → (c : ℕ) → selected (pairs ds cs) c ≡ image ds (dots cs c)
 pairs-selected ds cs e c = let (same-ds, same-cs) = pairs-parts ds cs e in ap₂ (λ (d q : List ℕ). image d (dots q c)) same-ds same-cs

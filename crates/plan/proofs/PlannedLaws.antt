@@ -1,13 +1,8 @@
 -- The planned sheet passes for its order, and has the fewest read stages of all sheets that are right for it.
---   identity-wired      wiring that is the identity sends port p to bank p
 --   read-map            the read side's map N, at tick c and port p: the cell has address c, and the stages change the bank
---   read-twice          N after N is the identity
---   read-linear, read-bijection          N is linear, and a bijection of the words and the cells
---   planned-linear, planned-bijection    so is M = N P
 --   write-layable       the planned write side can be laid out
 --   write-few           it has no more stages than a port has bits, or a tick
---   write-wired, read-wired              both wirings are invertible
---   sheet-M, sheet-N    the maps of the planned sheet are N P and N
+--   sheet-M             the planned sheet's M is N P
 --   planned-passes      it passes
 --   planned-formed      it keeps the layout
 --   planned             it is what the planner promises
@@ -15,7 +10,7 @@ use Prim.Native.Nat.{ℕ, _+_, _^_, _<_, _≤_, min}
 use mathlib.Core.Path.{_≡_, refl, sym, ap, ap₂, _∙_}
 use mathlib.Core.List.{List}
 use native.Mathlib.Omega.{arith}
-use lib.Bits.{bitXor, xor-shr}
+use lib.Bits.{bitXor}
 use lib.ListN.{length}
 use lib.Pow.{split, high}
 use Rattle.kinds.specs.Edition.{Edition, Sized}
@@ -23,7 +18,7 @@ use Rattle.kinds.specs.Frame.{ticks, tickBits, tickOf, portOf, wordAt}
 use Rattle.kinds.proofs.FrameLaws.{tick-lt, port-lt, word-lt}
 use Rattle.bits.specs.Image.{image, Linear, columns}
 use Rattle.bits.proofs.XorLaws.{xor-cancel-right}
-use Rattle.bits.proofs.ImageLaws.{image-xor, linear-image}
+use Rattle.bits.proofs.ImageLaws.{image-xor, image-identity, image-shifted}
 use Rattle.span.specs.Maps.{Bijection}
 use Rattle.span.specs.Scan.{rank}
 use Rattle.span.proofs.Counting.{injective-bijection, onto-bijection, bijection-same}
@@ -37,9 +32,8 @@ use Rattle.sheet.specs.Layout.{WellFormed, Layable}
 use Rattle.sheet.proofs.LayLaws.{sheet-write, sheet-read, sheet-formed}
 use Rattle.maps.specs.Cells.{bankAt, cellAt, cellOf, M, N}
 use Rattle.maps.specs.Stages.{selected}
-use Rattle.maps.proofs.CellLaws.{stages-sum, bank-lt, cell-word, cell-linear}
+use Rattle.maps.proofs.CellLaws.{stages-sum, bank-lt, cell-word, cell-into, cell-linear}
 use Rattle.maps.proofs.StageLaws.{side-map, side-few, side-layable}
-use Rattle.run.proofs.PlaceLaws.{cell-into}
 use Rattle.promise.specs.Passes.{Invertible, Passes}
 use Rattle.promise.proofs.PassLaws.{shares-invertible}
 use Rattle.promise.proofs.BoundLaws.{port-part}
@@ -48,9 +42,6 @@ use Rattle.plan.specs.Planned.{readStages, plannedRead, plannedM, planne
 use Rattle.plan.specs.Tool.{IsPlanned}
 use Rattle.plan.proofs.ChoiceLaws.{read-count, read-layable}
 use Rattle.plan.proofs.WiringLaws.{wiring-vanish}
-
-pub identity-wired : (k p : ℕ) → p < 2 ^ k → image (columns k (λ p. p)) p ≡ p
-identity-wired k p h = sym (linear-image k (λ p. p) (λ x y. refl) p h)
 
 module _ {e : Edition} {n k : ℕ} {C : List ℕ} (sized : Sized e n k) (order : Order n C) (room : e .most-k ≤ e .most-stages) where
   within : k ≤ n
@@ -69,15 +60,15 @@ module _ {e : Edition} {n k : ℕ} {C : List ℕ} (sized : Sized e n k) (order :
   added = selected (readStages n k C)
 
   read-bank : (c p : ℕ) → p < 2 ^ k → bankAt (plannedRead n k C) c p ≡ bitXor p (added c)
-  read-bank c p h = stages-sum (readStages n k C) c (image (columns k (λ p. p)) p) ∙ ap (λ (b : ℕ). bitXor b (added c)) (identity-wired k p h)
+  read-bank c p h = stages-sum (readStages n k C) c (image (columns k (λ p. p)) p) ∙ ap (λ (b : ℕ). bitXor b (added c)) (image-identity k p h)
 
   pub read-map : (c p : ℕ) → c < ticks n k → p < 2 ^ k → cellAt k (plannedRead n k C) c p ≡ wordAt k c (bitXor p (added c))
   read-map c p tick port =
       ap₂ (wordAt k)
-      (sym (linear-image n (tickOf k) (λ x y. xor-shr x y k) (wordAt k c p) (word-lt within tick port)) ∙ high c k port)
+      (image-shifted n k (wordAt k c p) (word-lt within tick port) ∙ high c k port)
       (read-bank c p port)
 
-  pub read-twice : (i : ℕ) → i < 2 ^ n → read (read i) ≡ i
+  read-twice : (i : ℕ) → i < 2 ^ n → read (read i) ≡ i
   read-twice i h =
       let c = tickOf k i in
       let p = portOf k i in
@@ -90,24 +81,24 @@ module _ {e : Edition} {n k : ℕ} {C : List ℕ} (sized : Sized e n k) (order :
       ∙ ap (wordAt k c) (xor-cancel-right p (added c))
       ∙ split i k
 
-  pub read-linear : Linear read
+  read-linear : Linear read
   read-linear = cell-linear (read-laid .used)
 
-  pub read-bijection : Bijection read (2 ^ n)
+  read-bijection : Bijection read (2 ^ n)
   read-bijection =
       let into = cell-into (read-laid .used) within in onto-bijection (λ i h. into i) (λ i h. (read i, into i, read-twice i h))
 
-  pub planned-linear : Linear (plannedM n k C)
+  planned-linear : Linear (plannedM n k C)
   planned-linear x y = ap read (image-xor C x y) ∙ read-linear (place C x) (place C y)
 
-  pub planned-bijection : Bijection (plannedM n k C) (2 ^ n)
+  planned-bijection : Bijection (plannedM n k C) (2 ^ n)
   planned-bijection =
       let places = order-bijection order in
       injective-bijection (λ i h. read-bijection .into (place C i) (places .into i h))
       (λ i j h l same. places .injective i j h l (read-bijection .injective (place C i) (place C j) (places .into i h) (places .into j l) same))
 
-  pub read-wired : Invertible k (plannedRead n k C)
-  read-wired = bijection-same (identity-wired k) (injective-bijection (λ p h. h) (λ p q h l same. same))
+  read-wired : Invertible k (plannedRead n k C)
+  read-wired = bijection-same (image-identity k) (injective-bijection (λ p h. h) (λ p q h l same. same))
 
   pub write-layable : Layable e n k (plannedWrite n k C)
   write-layable = side-layable n k (plannedM n k C) within planned-linear (planned-bijection .into) e few
@@ -118,13 +109,13 @@ module _ {e : Edition} {n k : ℕ} {C : List ℕ} (sized : Sized e n k) (order :
   write-map : (i : ℕ) → i < 2 ^ n → cellOf k (plannedWrite n k C) i ≡ plannedM n k C i
   write-map = side-map n k (plannedM n k C) within planned-linear (planned-bijection .into)
 
-  pub write-wired : Invertible k (plannedWrite n k C)
+  write-wired : Invertible k (plannedWrite n k C)
   write-wired =
       independent-bijection k (plannedWrite n k C .wiring) (write-layable .wiring) (write-layable .used .wiring)
       (λ p h none.
       let port : p < 2 ^ k = rw (write-layable .wiring) at h in
       wiring-vanish k within order p port
-      (ap (bitXor (added (P3 k C p))) (sym (identity-wired k (P1 k C p) (P1-into k C (2 ^ k) p port)))
+      (ap (bitXor (added (P3 k C p))) (sym (image-identity k (P1 k C p) (P1-into k C (2 ^ k) p port)))
       ∙ sym (port-part n k (plannedWrite n k C) (plannedRead n k C) C within (write-layable .used) (read-laid .used) write-map p port)
       ∙ none))
 
@@ -140,7 +131,7 @@ module _ {e : Edition} {n k : ℕ} {C : List ℕ} (sized : Sized e n k) (order :
   pub sheet-M : (i : ℕ) → i < 2 ^ n → M e n k sheet i ≡ plannedM n k C i
   sheet-M i h = ap (λ (S : Side). cellOf k S i) is-write ∙ write-map i h
 
-  pub sheet-N : (i : ℕ) → N e n k sheet i ≡ read i
+  sheet-N : (i : ℕ) → N e n k sheet i ≡ read i
   sheet-N i = ap (λ (S : Side). cellOf k S i) is-read
 
   sheet-count : rank (rowsP1 k C) + length (readSide e n k sheet .stages) ≡ k

@@ -1,27 +1,25 @@
 -- The planned write wiring sends no two ports to one bank. It is M's port-to-bank part: P1, and what the read stages add to it.
---   read-selected       the read stages take the bits j1, j2, .. of a tick to the bits i1, i2, .. of a bank
 --   wiring-vanish       only port 0 is wired to bank 0: the rows of P1 that were kept get nothing added, so P1 sends the port to 0; then nothing is added
 --                       to the others either, so P3 sends it to 0 too
 use Prim.Native.Nat.{ℕ, _^_, _<_, _≤_}
 use mathlib.Core.Path.{_≡_, sym, ap, _∙_}
 use mathlib.Core.List.{List}
-use native.Mathlib.Omega.{arith}
 use lib.Bits.{bitXor}
-use lib.ListN.{length, length-map}
 use Rattle.bits.specs.Parity.{bit}
 use Rattle.bits.proofs.XorLaws.{xor-zero-eq}
-use Rattle.span.specs.Scan.{sumBefore?, units, over}
+use Rattle.span.specs.Scan.{units, over}
 use Rattle.span.specs.Rows.{dots, takenOn}
 use Rattle.span.proofs.RowLaws.{dots-lt}
 use Rattle.span.proofs.ScanLaws.{kept-apart}
 use Rattle.span.proofs.RowRankLaws.{vanish-at-kept}
 use Rattle.span.proofs.TakenLaws.{taken-unit}
-use Rattle.span.proofs.PositionLaws.{over-none, units-none, those-independent}
+use Rattle.span.proofs.PositionLaws.{over-none, units-none, others-independent}
 use Rattle.order.specs.Order.{Order}
 use Rattle.order.specs.Parts.{P1, P3, rowsP1, rowsP3}
+use Rattle.order.proofs.RowLaws.{dots-P1, dots-P3, parts-vanish}
 use Rattle.maps.specs.Stages.{selected}
 use Rattle.plan.specs.Planned.{othersOfP1, portsToZero, keptOfP3, readStages}
-use Rattle.plan.proofs.ChoiceLaws.{dots-P1, dots-P3, zero-ports, other-rows, kept-rows, parts-vanish}
+use Rattle.plan.proofs.ChoiceLaws.{zero-ports, as-many}
 use Rattle.plan.proofs.PairLaws.{pairs-selected}
 
 module _ {n : ℕ} (k : ℕ) {C : List ℕ} (within : k ≤ n) (o : Order n C) where
@@ -31,12 +29,10 @@ module _ {n : ℕ} (k : ℕ) {C : List ℕ} (within : k ≤ n) (o : Order n C) w
   abbrev js : List ℕ
   js = keptOfP3 n k C
 
-  as-many : length (units js) ≡ length (units is)
-  as-many = omega (arith, length-map is (λ i. 2 ^ i), length-map js (λ j. 2 ^ j), other-rows k C, kept-rows k within o)
-
-  pub read-selected : (c : ℕ) → selected (readStages n k C) c ≡ over is (dots (units js) c)
+  -- the read stages take the bits j1, j2, .. of a tick to the bits i1, i2, .. of a bank
+  read-selected : (c : ℕ) → selected (readStages n k C) c ≡ over is (dots (units js) c)
   unfolding readStages
-  read-selected = pairs-selected (units is) (units js) as-many
+  read-selected = pairs-selected (units is) (units js) (as-many k within o)
 
   module _ (p : ℕ) (h : p < 2 ^ k) (e : bitXor (selected (readStages n k C) (P3 k C p)) (P1 k C p) ≡ 0) where
     abbrev bits : ℕ
@@ -57,7 +53,7 @@ module _ {n : ℕ} (k : ℕ) {C : List ℕ} (within : k ≤ n) (o : Order n C) w
     bits-zero : bits ≡ 0
     unfolding othersOfP1
     bits-zero =
-        those-independent (sumBefore? (rowsP1 k C)) (length (rowsP1 k C)) bits (rw as-many at (dots-lt (units js) (P3 k C p))) (sym from-bits ∙ port-zero)
+        others-independent (rowsP1 k C) bits (rw (as-many k within o) at (dots-lt (units js) (P3 k C p))) (sym from-bits ∙ port-zero)
 
     tick-zero : P3 k C p ≡ 0
     unfolding keptOfP3

@@ -27,8 +27,7 @@ use Rattle.order.proofs.OrderLaws.{order-bijection}
 use Rattle.sheet.specs.Sheet.{Side, writeSide, readSide}
 use Rattle.sheet.specs.Layout.{InRange, WellFormed}
 use Rattle.maps.specs.Cells.{cellOf, M, N}
-use Rattle.maps.proofs.CellLaws.{same-bank, word-bank, wiring-part}
-use Rattle.run.proofs.PlaceLaws.{cell-into}
+use Rattle.maps.proofs.CellLaws.{same-bank, word-bank, wiring-part, cell-into}
 use Rattle.promise.specs.Passes.{Invertible, ShareCell, passTable, Passes, BanksApart, Fits}
 
 module _ (e : Edition) (n k : ℕ) (C s : List ℕ) where

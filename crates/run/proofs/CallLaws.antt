@@ -23,6 +23,7 @@ use Rattle.kinds.specs.declared.Refusal.{Refusal}
 use Rattle.kinds.proofs.LowestLaws.{lowest-none, lowest-append, lowest-after}
 use Rattle.bits.specs.Image.{AllBelow}
 use Rattle.maps.specs.Cells.{M, N}
+use Rattle.maps.proofs.CellLaws.{cell-into}
 use Rattle.run.specs.Memory.{Memory, filledMarks}
 use Rattle.run.specs.Faults.{faults}
 use Rattle.run.specs.States.{Possible}
@@ -31,7 +32,7 @@ use Rattle.run.specs.Tool.{rightTick, beforeFaults, sheetCall}
 use Rattle.run.specs.declared.State.{State}
 use Rattle.run.proofs.StateLaws.{next-possible}
 use Rattle.run.proofs.TableLaws.{Sound, run-sound}
-use Rattle.run.proofs.PlaceLaws.{nothing, reads-length, writes-length, cell-into, reads-below, writes-below}
+use Rattle.run.proofs.PlaceLaws.{nothing, reads-length, writes-length, reads-below, writes-below}
 use Rattle.run.proofs.CountLaws.{apart, served-filled}
 
 module _ (t : List Reason) (n k : ℕ) (f g : ℕ → ℕ) (st : State) (ws : List ℕ) (m : Memory) where

@@ -2,11 +2,11 @@
 --   halves-apart       places of two halves are different
 --   places-at          the cells of a tick, one by one
 --   places-length      there are 2^k of them
---   reads-length, writes-length    a call reads 2^k cells or none, and writes 2^k or none
+--   reads-length       a call reads 2^k cells or none
 --   reads-few          so it reads at most 2^k
+--   writes-length      it writes 2^k or none
 --   places-clash       the cells of a tick clash exactly when those of two of its words are of one bank
---   cell-into          a side's map goes into 2^n cells
---   places-below       where a map does, the places of a tick are places of the memory
+--   places-below       where a map goes into 2^n cells, the places of a tick are places of the memory
 --   reads-below, writes-below      so are those that a call reads, and those that it writes
 --   sides-apart        and no place that it writes is one that it reads
 --   are-places         a list of cells, each with the start of a half added, is the places of a tick
@@ -22,13 +22,12 @@ use native.Mathlib.Omega.{arith}
 use lib.Arith.{digits-lt}
 use lib.ListN.{length, getD}
 use lib.Pow.{pow-add, high}
-use Rattle.kinds.specs.Frame.{ticks, tickOf, portOf, wordAt, bankOf, inOrder}
+use Rattle.kinds.specs.Frame.{ticks, wordAt, bankOf, inOrder}
 use Rattle.kinds.proofs.FrameLaws.{frame-whole, in-order-length, in-order-at, in-order-is}
 use Rattle.bits.specs.Image.{AllBelow}
 use Rattle.sheet.specs.Sheet.{Side}
-use Rattle.sheet.specs.Layout.{InRange}
 use Rattle.maps.specs.Cells.{cellAt, cellOf}
-use Rattle.maps.proofs.CellLaws.{cell-lt, cell-word}
+use Rattle.maps.proofs.CellLaws.{cell-word}
 use Rattle.run.specs.Faults.{Clash}
 use Rattle.run.specs.States.{reading}
 use Rattle.run.specs.Call.{placeIn, placesOf, readsOf, writesOf}
@@ -78,10 +77,6 @@ module _ {n k : ℕ} (within : k ≤ n) (f : ℕ → ℕ) (h c : ℕ) where
         λ (p, l, (q, r, (b, e))). (p, q, b, omega arith, sym (place-bank p (omega arith)) ∙ e ∙ place-bank q (omega arith)),
         λ (p, q, b, r, e). (p, omega arith, (q, omega arith, (b, place-bank p (omega arith) ∙ e ∙ sym (place-bank q r)))),
       )
-
-module _ {n k : ℕ} {S : Side} (used : InRange n k S) (within : k ≤ n) where
-  pub cell-into : (i : ℕ) → cellOf k S i < 2 ^ n
-  cell-into i = cell-lt used within (tickOf k i) (portOf k i)
 
 module _ (n k : ℕ) (f : ℕ → ℕ) (into : (i : ℕ) → f i < 2 ^ n) where
   pub places-below : (h c : ℕ) → h < 2 → AllBelow (2 ^ (n + 1)) (placesOf n k f h c)

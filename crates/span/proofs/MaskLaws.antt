@@ -23,7 +23,7 @@ use Rattle.bits.proofs.ImageLaws.{image-unit, image-image, image-lt, image-xor}
 use Rattle.span.specs.Sums.{SumOf, sumOf?, Independent}
 use Rattle.span.specs.Scan.{members, keptAt, SumBefore, IsKept, units, over, maskBy, mask, masks}
 use Rattle.span.proofs.SumLaws.{sum-image, sum-member, sum-right, independent-injective}
-use Rattle.span.proofs.ScanLaws.{units-at, kept-or-sum, keptAt-old, keptAt-new, keptAt-below, keptAt-more, kept-independent}
+use Rattle.span.proofs.ScanLaws.{units-at, units-length, kept-or-sum, keptAt-old, keptAt-new, keptAt-below, keptAt-more, kept-independent}
 
 pub image-over : (vs ps : List ℕ) (m : ℕ) → image vs (over ps m) ≡ image (members vs ps) m
 image-over vs ps m = image-image vs (units ps) m ∙ ap (λ (cs : List ℕ). image cs m) (at-units ps)
@@ -82,7 +82,7 @@ module _ (vs : List ℕ) (i : ℕ) where
       ∙ t .sum
     where
       short : {m : ℕ} (s : SumOf (units (keptAt vs n)) m) → s .selected < 2 ^ length (members vs (keptAt vs n))
-      short s = rw (length-map (keptAt vs n) (λ p. getD vs p 0), ← length-map (keptAt vs n) (λ p. 2 ^ p)) (s .below)
+      short s = rw (length-map (keptAt vs n) (λ p. getD vs p 0), ← units-length (keptAt vs n)) (s .below)
 
       selects : {m : ℕ} (s : SumOf (units (keptAt vs n)) m) → image (members vs (keptAt vs n)) (s .selected) ≡ image vs m
       selects s = sym (image-over vs (keptAt vs n) (s .selected)) ∙ ap (image vs) (s .sum)

@@ -1,7 +1,7 @@
 -- Kept positions, and masks read bit by bit over them.
 --   over-none          a mask over some positions has no bit at any other
 --   units-none         where the units of positions make 0 of x, its bits there are 0
---   those-independent  2^i, for the numbers i that have something, are independent
+--   others-independent the units of the positions that are not kept are independent
 --   sum-by-bits        the kept numbers whose positions are in the mask of number j have number j as their sum
 use Prim.Native.Nat.{ℕ, zero, suc, _^_, _<_}
 use mathlib.Core.Path.{_≡_, sym, ap, _∙_}
@@ -17,7 +17,7 @@ use Rattle.bits.specs.Image.{image}
 use Rattle.bits.specs.Parity.{bit, dot}
 use Rattle.bits.proofs.ParityLaws.{dot-unit, bit-same, bit-other, by-bits, dot-comm, dot-zero}
 use Rattle.span.specs.Rows.{dots}
-use Rattle.span.specs.Scan.{keptAt, kept, units, over, mask}
+use Rattle.span.specs.Scan.{keptAt, sumBefore?, kept, others, units, over, mask}
 use Rattle.span.specs.Sums.{Independent}
 use Rattle.span.proofs.RowLaws.{dots-lt, dots-bit, dot-image, dots-none, dots-cons}
 use Rattle.span.proofs.ScanLaws.{units-at, keptAt-ascending, keptAt-more}
@@ -77,7 +77,8 @@ units-none [] x e l h = absurd (omega arith)
 units-none (p ∷ ps) x e zero h = sym (dot-unit p x) ∙ dot-comm x (2 ^ p) ∙ omega (arith, dots-cons (2 ^ p) (units ps) x)
 units-none (p ∷ ps) x e (suc l) h = units-none ps x (omega (arith, dots-cons (2 ^ p) (units ps) x)) l (omega arith)
 
-pub those-independent : {P : ℕ → Type 0} (P? : (i : ℕ) → Dec (P i)) (n : ℕ) → Independent (units (those P? n))
+-- 2^i, for the numbers i that have something, are independent
+those-independent : {P : ℕ → Type 0} (P? : (i : ℕ) → Dec (P i)) (n : ℕ) → Independent (units (those P? n))
 unfolding those
 those-independent P? zero = independent-nil
 those-independent {P} P? (suc n) = go (P? n) (those-independent P? n)
@@ -88,6 +89,10 @@ those-independent {P} P? (suc n) = go (P? n) (those-independent P? n)
         rw (map-append (λ (i : ℕ). 2 ^ i) (those P? n) (n ∷ []))
         (independent-snoc (units (those P? n)) (2 ^ n) rest
         (λ s. omega (arith, over-below n (those P? n) (λ l h. those-at P? n l h .0) (s .selected), s .sum)))
+
+pub others-independent : (vs : List ℕ) → Independent (units (others vs))
+unfolding others
+others-independent vs = those-independent (sumBefore? vs) (length vs)
 
 pub sum-by-bits : (vs : List ℕ) (j x : ℕ) → j < length vs → x < 2 ^ length (keptAt vs (length vs))
     → ((s : ℕ) → s < length (keptAt vs (length vs)) → bit s x ≡ bit (getD (keptAt vs (length vs)) s 0) (mask vs j)) → image (kept vs) x ≡ getD vs j 0

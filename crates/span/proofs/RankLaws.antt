@@ -1,11 +1,13 @@
 -- Rank: how many the scan keeps. It depends on the span alone.
---   kept-all-independent, kept-sum, kept-member, kept-all-below    what is kept of a whole list
+--   kept-all-independent, kept-sum, kept-member    what is kept of a whole list is independent, makes up each number of it, and is made of them
 --   rank-le-length       a list of which each number is a sum is no shorter than the rank
+--   rank-length          so no list is shorter than its rank
 --   rank-le, rank-span   a smaller span has no greater rank; the same span has the same
+--   kept-all-below       what is kept of numbers below a bound is below it
 --   rank-width           numbers of k bits have rank at most k
+--   independent-rank, rank-independent    the rank is the length exactly when the list is independent
 --   rank-positions       the rank is the number of kept positions
 --   others-count         with the others they are all
---   independent-rank, rank-independent    the rank is the length exactly when the list is independent
 --   independent-all-kept, all-kept-independent    the scan keeps all exactly when the list is independent
 --   columns-sum          the columns of a map are sums where its values at 1, 2, 4, .. are
 --   bijection-rank       a linear bijection of k bits has rank k
@@ -49,6 +51,9 @@ pub rank-le-length : (vs ds : List ℕ) → ((j : ℕ) → j < length vs → Sum
 unfolding rank
 rank-le-length vs ds sums = independent-le (kept vs) ds (kept-all-independent vs) (λ l h. span-trans {cs = vs} sums (kept-member vs l h))
 
+pub rank-length : (vs : List ℕ) → rank vs ≤ length vs
+rank-length vs = rank-le-length vs vs (λ j h. sum-member vs j)
+
 pub rank-le : (vs ws : List ℕ) → ((j : ℕ) → j < length vs → SumOf ws (getD vs j 0)) → rank vs ≤ rank ws
 unfolding rank
 rank-le vs ws sums = rank-le-length vs (kept ws) (λ j h. span-trans {cs = ws} (kept-sum ws) (sums j h))
@@ -70,7 +75,7 @@ rank-width k vs b = independent-width k (kept vs) (kept-all-below (2 ^ k) vs b) 
 pub independent-rank : (vs : List ℕ) → Independent vs → rank vs ≡ length vs
 unfolding rank
 independent-rank vs ind =
-    le-antisymm (rank-le-length vs vs (λ j h. sum-member vs j)) (independent-le vs (kept vs) ind (kept-sum vs))
+    le-antisymm (rank-length vs) (independent-le vs (kept vs) ind (kept-sum vs))
 
 pub rank-independent : (vs : List ℕ) → rank vs ≡ length vs → Independent vs
 unfolding rank kept

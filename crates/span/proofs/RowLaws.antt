@@ -6,14 +6,14 @@
 --   dots-bit       bit l of what the rows make of x is the dot of row l and x
 --   dots-none      the rows make 0 of what has dot 0 with each
 --   vanish-append  where two lists of rows make 0 of x, each does
---   dot-image        the dot of a sum of rows and x is the dot of the selection and what the rows make of x
+--   dot-image      the dot of a sum of rows and x is the dot of the selection and what the rows make of x
 --   dot-same       two numbers of k bits that have the same dot with each number of k bits are equal
 --   rows-length    there are m rows
 --   rows-at        row i is what the columns make of 2^i: bit i of each
 --   rows-below     a row has as many bits as there are columns
---   rows-bit           bit j of row i is bit i of column j
---   row-dot            a row AND x is odd exactly when that bit of the image is 1
+--   rows-bit       bit j of row i is bit i of column j
 --   rows-image     the rows of columns make of x its image under the columns
+--   row-dot        a row AND x is odd exactly when that bit of the image is 1
 --   rows-rows      the rows of the rows are the columns
 use Prim.Native.Nat.{ℕ, zero, suc, _+_, _*_, _/_, _%_, _^_, _<_, min}
 use mathlib.Core.Path.{_≡_, refl, sym, ap, ap₂, _∙_}

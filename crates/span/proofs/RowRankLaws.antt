@@ -25,8 +25,8 @@ use Rattle.span.specs.Sums.{SumOf, Independent}
 use Rattle.span.specs.Scan.{kept, rank, keptAt}
 use Rattle.span.specs.Rows.{dots, rows}
 use Rattle.span.proofs.Counting.{injective-width}
-use Rattle.span.proofs.SumLaws.{sum-image, sum-member, span-trans}
-use Rattle.span.proofs.RankLaws.{kept-all-independent, kept-sum, kept-member, kept-all-below, rank-le-length, rank-le, rank-width, rank-independent}
+use Rattle.span.proofs.SumLaws.{sum-image, span-trans}
+use Rattle.span.proofs.RankLaws.{kept-all-independent, kept-sum, kept-member, kept-all-below, rank-le-length, rank-length, rank-le, rank-width, rank-independent}
 use Rattle.span.proofs.RowLaws.{dots-nil, dots-cons, dots-lt, dots-xor, dot-image, rows-below, rows-image, rows-rows, dots-none, dots-bit}
 use Rattle.span.proofs.DualLaws.{functional-sum}
 use Rattle.span.proofs.ScanLaws.{members-at, keptAt-below}
@@ -118,5 +118,5 @@ image-factor m cs below = (ws, count, independent, factors)
     independent : Independent ws
     independent =
         rank-independent ws
-        (le-antisymm (rank-le-length ws ws (λ j h. sum-member ws j))
+        (le-antisymm (rank-length ws)
         (le-trans (le-of-eq (count ∙ rank-rows m cs below)) (rank-le cs ws sums)))

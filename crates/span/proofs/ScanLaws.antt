@@ -1,14 +1,16 @@
 -- The scan, for any list: what is kept.
 --   map-at                   the value at a place of a list of values
 --   members-at, units-at     the member and the unit at a place of a list of positions
+--   units-length             there are as many units as positions
 --   kept-or-sum              each number is kept, or is a sum of those kept before it
 --   kept-those               the positions kept are those of the numbers that are no sum of those kept before
 --   keptAt-old, keptAt-new   a sum adds no position; any other number adds its own
 --   keptAt-below             the positions kept among the first i are below i
 --   keptAt-ascending         they ascend
---   kept-apart               no position is both kept and not
 --   keptAt-longer            later no fewer are kept
 --   keptAt-more              a sum over the positions kept is one over those kept later: of members, and of units
+--   others-below             the positions of a list that are not kept are among its positions
+--   kept-apart               none of them is kept
 --   kept-independent         the numbers kept are independent
 --   scanned-sum              each scanned number is a sum of those kept at or before it
 --   span-earlier             the sums of those kept are the sums of all scanned so far
@@ -40,6 +42,9 @@ members-at vs = map-at (λ p. getD vs p 0)
 
 pub units-at : (ps : List ℕ) (l : ℕ) → l < length ps → getD (units ps) l 0 ≡ 2 ^ getD ps l 0
 units-at = map-at (λ p. 2 ^ p)
+
+pub units-length : (ps : List ℕ) → length (units ps) ≡ length ps
+units-length ps = length-map ps (λ p. 2 ^ p)
 
 -- ---- one step of the scan
 
@@ -81,6 +86,10 @@ module _ (vs : List ℕ) where
 
   pub keptAt-more : (f : ℕ → ℕ) {i k : ℕ} → i ≤ k → {v : ℕ} → SumOf (map f (keptAt vs i)) v → SumOf (map f (keptAt vs k)) v
   keptAt-more f {i} h s = let (ps, e) = later h in rw (e, map-append f (keptAt vs i) ps) (sum-left (map f ps) s)
+
+pub others-below : (vs : List ℕ) → AllBelow (length vs) (others vs)
+unfolding others
+others-below vs l h = those-at (sumBefore? vs) (length vs) l h .0
 
 pub kept-apart : (vs : List ℕ) (l m : ℕ) → l < length (keptAt vs (length vs)) → m < length (others vs)
     → getD (keptAt vs (length vs)) l 0 ≢ getD (others vs) m 0

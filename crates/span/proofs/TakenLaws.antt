@@ -1,7 +1,7 @@
 -- Rows after others. Z lists the numbers on which all rows of R vanish.
 --   taken-unit      rows taken on the numbers Z make of 2^l what they make of number l of Z
 --   taken-kept      of rows S after R the scan keeps those that it keeps of S taken only on Z
---   taken-rank      so the rank of both together is that of R and as many as are kept of S taken only on Z
+--   taken-rank      so the rank of both together is that of R and that of S taken only on Z
 use Prim.Native.Nat.{ℕ, zero, suc, _+_, _^_, _≤_, _<_}
 use mathlib.Core.Path.{_≡_, refl, ap, _∙_, sym}
 use mathlib.Core.List.{List, [], _∷_, _++_, map}
@@ -95,5 +95,7 @@ module _ (k : ℕ) (R S Z : List ℕ) (R-below : AllBelow (2 ^ k) R) (S-below : 
       (λ old. rw (keptAt-old (R ++ S) (length R + j) (taken-before j h .1 old), keptAt-old (takenOn Z S) j old) (count j (omega arith)))
       (kept-or-sum (takenOn Z S) j))
 
-  pub taken-rank : rank (R ++ S) ≡ rank R + length (keptAt (takenOn Z S) (length S))
-  taken-rank = rank-positions (R ++ S) ∙ rw (length-append R S) (count (length S) (omega arith))
+  pub taken-rank : rank (R ++ S) ≡ rank R + rank (takenOn Z S)
+  taken-rank =
+      rank-positions (R ++ S)
+      ∙ rw (length-append R S, rank-positions (takenOn Z S), length-map S (dots Z)) (count (length S) (omega arith))

@@ -20,7 +20,7 @@ use Rattle.plan.specs.Planned.{readStages, plannedRead, plannedM, planne
 use Rattle.plan.specs.Inside.{bankThrough, Ordered, FewKept, staged}
 use Rattle.plan.proofs.ChoiceLaws.{read-layable}
 use Rattle.plan.proofs.PlannedLaws.{write-layable}
-use Rattle.plan.proofs.DrawnLaws.{addresses-drawn, wiring-drawn, ticks-drawn}
+use Rattle.plan.proofs.DrawnLaws.{addresses-drawn, wiring-drawn, tick-part-drawn}
 use Rattle.plan.proofs.lay_write_side.Statement.{statement}
 use Rattle.plan.proofs.lay_write_side.Tie as tie
 
@@ -80,7 +80,7 @@ module _ (c : tie.After-banks-of) where
   read = read-layable k within (sound .order) edition1 (omega (arith, sound .sized .most)) .used
 
   ticks : take (n - k) (drop k (c .banks-of .result)) ≡ F
-  ticks = ap (λ (l : List ℕ). take (n - k) (drop k l)) banks ∙ ticks-drawn n k C within (sound .order) read narrow
+  ticks = ap (λ (l : List ℕ). take (n - k) (drop k l)) banks ∙ tick-part-drawn n k C within (sound .order) read narrow
 
   wires : take (k - 0) (c .banks-of .result) ≡ W .wiring
   wires = ap (take (k - 0)) banks ∙ wiring-drawn n k C within (sound .order) read narrow

@@ -1,31 +1,25 @@
 -- `plan::list_rows` meets its contract. The invariant: what is listed of the positions from a to i - 1 stands in the array.
 use Prim.Native.Nat.{ℕ, suc, _+_, _-_, _^_, _≤_, _<_}
-use mathlib.Core.Path.{_≡_, refl, sym, ap₂, _∙_}
-use mathlib.Core.Bool.{Bool, true, false, Bool·beq, Bool-discrete}
+use mathlib.Core.Path.{_≡_, sym, ap₂, _∙_}
+use mathlib.Core.Bool.{Bool, Bool·beq, Bool-discrete}
 use mathlib.Core.List.{List, [], _∷_, _++_, map-append}
 use mathlib.Core.Logic.{⊎-elim}
 use native.Mathlib.Omega.{arith}
 use borrow.Author.Needs.{needs}
-use lib.Dec.{leb}
-use lib.ListN.{length, getD, set, replicate, length-append, length-map}
+use lib.ListN.{length, set, replicate, length-append}
 use lib.Pow.{pow-lt}
 use Rattle.kinds.specs.Answers.{Says}
 use Rattle.kinds.specs.Search.{those}
 use Rattle.kinds.proofs.SearchLaws.{those-new, those-old}
-use Rattle.kinds.proofs.TruthLaws.{false≢true, says-no, says-yes, denied}
+use Rattle.kinds.proofs.TruthLaws.{denied, equal-says}
 use Rattle.span.specs.Scan.{units as unitsAt}
+use Rattle.span.proofs.ScanLaws.{units-length}
 use Rattle.sheet.proofs.LayLaws.{padded-snoc}
 use Rattle.maps.specs.Opened.{openWidth, padded}
 use Rattle.plan.specs.Inside.{keptIn, listed, unitsOf, Within}
 use Rattle.plan.specs.declared.Listed.{Listed}
 use Rattle.plan.proofs.list_rows.Statement.{statement}
 use Rattle.plan.proofs.list_rows.Tie as tie
-
-equal-says : (b c : Bool) → Says (Bool·beq b c) (b ≡ c)
-equal-says true true = says-yes refl
-equal-says true false = says-no (λ e. false≢true (sym e))
-equal-says false true = says-no false≢true
-equal-says false false = says-yes refl
 
 module _ (ms : List ℕ) (a : ℕ) (kept : Bool) where
   listed-none : listed ms a a kept ≡ []
@@ -72,7 +66,7 @@ module _ {ms : List ℕ} {a b : ℕ} {kept : Bool} {units : List ℕ} {count i :
     add {unit} e u es c =
         let ps = listed ms a i kept in
         let new = listed-new ms a kept (l .from) e in
-        let here : count ≡ length (unitsAt ps) = l .counted ∙ sym (length-map ps (λ p. 2 ^ p)) in
+        let here : count ≡ length (unitsAt ps) = l .counted ∙ sym (units-length ps) in
         step (omega arith) (rw new (omega (arith, length-append ps ((i - a) ∷ []))))
         (es
         ∙ ap₂ (λ (ns : List ℕ) (j : ℕ). set ns j unit) (l .front) here

@@ -1,21 +1,23 @@
 -- `plan::read_stages` meets its contract. The masks of the rows tell which were kept, and the two lists have one length.
-use Prim.Native.Nat.{ℕ, _+_, _-_, _^_, _<_, _≤_}
+use Prim.Native.Nat.{ℕ, _-_, _<_, _≤_}
 use mathlib.Core.Path.{_≡_, sym, ap, ap₂, _∙_}
 use mathlib.Core.List.{List, _++_}
 use native.Mathlib.Omega.{arith}
 use borrow.Author.Needs.{needs}
-use lib.ListN.{length, getD, take, length-map}
+use lib.ListN.{length, getD, take}
 use Rattle.span.specs.Scan.{mask, masks, units}
 use Rattle.span.specs.Rows.{rows}
+use Rattle.span.proofs.ScanLaws.{units-length}
 use Rattle.span.proofs.MaskLaws.{masks-at}
 use Rattle.span.proofs.RowLaws.{rows-length}
 use Rattle.order.specs.Parts.{rowsP1, rowsP3}
+use Rattle.order.proofs.RowLaws.{rows-together}
 use Rattle.sheet.proofs.LayLaws.{padded-at, padded-length, padded-part}
 use Rattle.maps.specs.Opened.{openWidth, padded}
 use Rattle.plan.specs.Planned.{othersOfP1, keptOfP3, pairs, readStages}
 use Rattle.plan.specs.Inside.{staged, unitsOf}
-use Rattle.plan.proofs.ChoiceLaws.{other-rows, kept-rows}
-use Rattle.plan.proofs.ListedLaws.{rows-together, others-listed, kept-listed}
+use Rattle.plan.proofs.ChoiceLaws.{other-rows, as-many}
+use Rattle.plan.proofs.ListedLaws.{others-listed, kept-listed}
 use Rattle.plan.proofs.read_stages.Statement.{statement}
 use Rattle.plan.proofs.read_stages.Tie as tie
 
@@ -95,30 +97,22 @@ module _ (c : tie.After-list-rows2) where
       ∙ masks-at scanned i (rw all h)
 
   others : c .before .before .list-rows .result ≡ unitsOf (othersOfP1 k C)
-  others = c .before .before .list-rows .ensures ∙ ap unitsOf (others-listed n k C within (start .pre .order .count) found masked)
+  others = c .before .before .list-rows .ensures ∙ ap unitsOf (others-listed n k C within found masked)
 
   kept : c .list-rows2 .result ≡ unitsOf (keptOfP3 n k C)
-  kept = c .list-rows2 .ensures ∙ ap unitsOf (kept-listed n k C within (start .pre .order .count) found masked)
+  kept = c .list-rows2 .ensures ∙ ap unitsOf (kept-listed n k C within found masked)
 
   abbrev count : ℕ
   count = c .before .before .list-rows .result .count
 
   directions : count ≡ length (units (othersOfP1 k C))
-  directions = ap (λ r. r .count) others ∙ sym (length-map (othersOfP1 k C) (λ i. 2 ^ i))
+  directions = ap (λ r. r .count) others ∙ sym (units-length (othersOfP1 k C))
 
   controls : count ≡ length (units (keptOfP3 n k C))
-  controls =
-      omega (
-        arith,
-        directions,
-        length-map (othersOfP1 k C) (λ i. 2 ^ i),
-        length-map (keptOfP3 n k C) (λ j. 2 ^ j),
-        other-rows k C,
-        kept-rows k within (start .pre .order),
-      )
+  controls = directions ∙ sym (as-many k within (start .pre .order))
 
   few : count ≤ 5
-  few = omega (arith, directions, length-map (othersOfP1 k C) (λ i. 2 ^ i), other-rows k C, start .pre .sized .most)
+  few = omega (arith, directions, units-length (othersOfP1 k C), other-rows k C, start .pre .sized .most)
 
   wide : (length (c .before .before .list-rows .result .units) ≡ openWidth) × (length (c .list-rows2 .result .units) ≡ openWidth)
   wide = (

@@ -14,6 +14,7 @@ use Rattle.kinds.specs.Refusal.{said}
 use Rattle.sheet.specs.Sheet.{Side}
 use Rattle.maps.specs.Cells.{cellOf}
 use Rattle.maps.specs.Opened.{Shows}
+use Rattle.maps.proofs.CellLaws.{cell-into}
 use Rattle.run.specs.Memory.{Memory}
 use Rattle.run.specs.States.{reading, next}
 use Rattle.run.specs.Call.{readsOf, writesOf}
@@ -22,7 +23,7 @@ use Rattle.run.specs.Inside.{mostPorts, Ready, Serves}
 use Rattle.run.specs.declared.State.{State}
 use Rattle.run.proofs.MemoryLaws.{same-memory}
 use Rattle.run.proofs.PartLaws.{part-length, part-back}
-use Rattle.run.proofs.PlaceLaws.{reads-length, reads-few, writes-length, cell-into, reads-below, writes-below, are-places, are-writes, are-reads}
+use Rattle.run.proofs.PlaceLaws.{reads-length, reads-few, writes-length, reads-below, writes-below, are-places, are-writes, are-reads}
 use Rattle.run.proofs.ToolLaws.{comes-refused, comes-done}
 use Rattle.run.proofs.call.Statement.{statement}
 use Rattle.run.proofs.call.Tie as tie

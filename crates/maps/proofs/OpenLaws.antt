@@ -26,7 +26,7 @@ use Rattle.kinds.proofs.AnswerLaws.{said-same, checks-unique, answers-same, ans
 use Rattle.bits.specs.Image.{chosen, image}
 use Rattle.bits.specs.Parity.{dot}
 use Rattle.bits.proofs.ImageLaws.{chosen-zero, same-image, chosen-lt}
-use Rattle.sheet.specs.Sheet.{Stage, Side, stageAt, stagesIn, flat}
+use Rattle.sheet.specs.Sheet.{Stage, Side, stageAt, stagesIn, stagesFrom, flat}
 use Rattle.sheet.specs.Table.{sheetTable}
 use Rattle.sheet.proofs.StageLaws.{same-stages}
 use Rattle.sheet.proofs.LayLaws.{padded-length, padded-at, flat-length, flat-stages}
@@ -76,12 +76,12 @@ module _ {n k : ℕ} {o : OpenSide} {S : Side} (h : Shows n k o S) where
   pub shown-wiring : (j : ℕ) → getD (o .wiring) j 0 ≡ getD (S .wiring) j 0
   shown-wiring j = ap (λ (q : OpenSide). getD (q .wiring) j 0) (h .is) ∙ padded-at openWidth (S .wiring) j
 
-  pub shown-stages : (c b : ℕ) → afterStages (stagesIn (length (o .stages) / 2) (o .stages)) c b ≡ afterStages (S .stages) c b
+  pub shown-stages : (c b : ℕ) → afterStages (stagesFrom (o .stages)) c b ≡ afterStages (S .stages) c b
   shown-stages c b =
       let all = flat (S .stages) in
       let m = length (S .stages) in
       let places : length (padded all) / 2 ≡ openStages = omega (arith, padded-length openWidth all (omega (arith, h .stages, flat-length (S .stages)))) in
-      ap (λ (q : OpenSide). afterStages (stagesIn (length (q .stages) / 2) (q .stages)) c b) (h .is)
+      ap (λ (q : OpenSide). afterStages (stagesFrom (q .stages)) c b) (h .is)
       ∙ ap (λ (s : ℕ). afterStages (stagesIn s (padded all)) c b) places
       ∙ ap (λ (ss : List Stage). afterStages ss c b) (same-stages openStages (padded all) all (padded-at openWidth all))
       ∙ ap (λ (s : ℕ). afterStages (stagesIn s all) c b) {x = openStages} {y = m + (openStages - m)} (omega (arith, h .stages))
@@ -93,10 +93,10 @@ module _ {n k : ℕ} {o : OpenSide} {S : Side} (h : Shows n k o S) where
       let small : cellAt k S c p < 2 ^ openWidth = omega (arith, cell-lt (h .used) (h .ports) c p, pow-mono (h .words)) in
       ap (λ (x : ℕ). (a * 2 ^ x + b) % 2 ^ openWidth) shown-k ∙ ap (λ (x : ℕ). x % 2 ^ openWidth) e ∙ mod-eq-of-lt small
 
-pub is-bank : (o : OpenSide) (c p : ℕ) {wired r : ℕ} → wired ≡ image (o .wiring) p → r ≡ afterStages (stagesIn (length (o .stages) / 2) (o .stages)) c wired → IsBank o c p r
+pub is-bank : (o : OpenSide) (c p : ℕ) {wired r : ℕ} → wired ≡ image (o .wiring) p → r ≡ afterStages (stagesFrom (o .stages)) c wired → IsBank o c p r
 is-bank o c p wired-is e n k S h =
     e
-    ∙ ap (afterStages (stagesIn (length (o .stages) / 2) (o .stages)) c) (wired-is ∙ same-image (o .wiring) (S .wiring) (shown-wiring h) p)
+    ∙ ap (afterStages (stagesFrom (o .stages)) c) (wired-is ∙ same-image (o .wiring) (S .wiring) (shown-wiring h) p)
     ∙ shown-stages h c (image (S .wiring) p)
 
 pub is-cell : {o : OpenSide} {a b r : ℕ} (c p : ℕ) → IsAddress o c p a → IsBank o c p b → r ≡ (a * 2 ^ o .k + b) % 2 ^ openWidth → IsCell o c p r

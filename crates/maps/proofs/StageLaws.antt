@@ -5,9 +5,9 @@
 --   side-map             the side that is written for a map has that map
 --   side-few             it has no more stages than k, or than there are tick bits
 --   side-layable         it can be laid out
-use Prim.Native.Nat.{ℕ, suc, _+_, _-_, _*_, _^_, _<_, _≤_, min}
+use Prim.Native.Nat.{ℕ, _+_, _-_, _*_, _^_, _<_, _≤_, min}
 use mathlib.Core.Path.{_≡_, refl, sym, ap, ap₂, _∙_}
-use mathlib.Core.List.{List, [], _∷_, map, map-map}
+use mathlib.Core.List.{List, map, map-map}
 use native.Mathlib.Decide.{decLt}
 use native.Mathlib.Nat.{pos-of-ne-zero, zero-div}
 use native.Mathlib.Omega.{arith}
@@ -21,7 +21,7 @@ use Rattle.bits.specs.Parity.{bit, dot}
 use Rattle.bits.proofs.ImageLaws.{image-xor, image-unit, linear-zero, linear-agree, columns-length, columns-at, columns-below}
 use Rattle.bits.proofs.ParityLaws.{dot-unit, bit-same}
 use Rattle.span.specs.Maps.{Into}
-use Rattle.span.specs.Rows.{dots}
+use Rattle.span.specs.Rows.{dots, row}
 use Rattle.span.specs.Scan.{members, keptAt, kept, rank, units, mask, masks}
 use Rattle.span.proofs.RowLaws.{dots-lt, dots-xor, dots-bit}
 use Rattle.span.proofs.SumLaws.{sum-image, sum-member}
@@ -31,8 +31,9 @@ use Rattle.span.proofs.RankLaws.{rank-le-length, rank-width, rank-positions, co
 use Rattle.span.proofs.PositionLaws.{sum-by-bits}
 use Rattle.sheet.specs.Sheet.{Stage, Side}
 use Rattle.sheet.specs.Layout.{StageInRange, EachStage, InRange, Layable}
+use Rattle.sheet.proofs.StageLaws.{each-of}
 use Rattle.maps.specs.Cells.{portToBank, tickToBank, afterStages, cellOf}
-use Rattle.maps.specs.Stages.{directions, controls, selected, keptStages, sideFor}
+use Rattle.maps.specs.Stages.{directions, controls, selected, keptStage, keptStages, sideFor}
 use Rattle.maps.proofs.CellLaws.{stages-sum, stages-made, cell-linear, port-column, tick-column}
 
 pub stages-rank : (k : ℕ) (ss : List Stage) (f : ℕ → ℕ) → rank (columns k (λ p. selected ss (f p))) ≤ length ss
@@ -41,43 +42,36 @@ stages-rank k ss f =
     (rank-le-length (columns k (λ p. selected ss (f p))) (directions ss)
     (columns-sum k (λ p. selected ss (f p)) (λ j h. sum-image (directions ss) (dots (controls ss) (f (2 ^ j))))))
 
-each-of : (Q : Stage → Type 0) (stage : ℕ → Stage) (ps : List ℕ) → ((s : ℕ) → s < length ps → Q (stage (getD ps s 0))) → EachStage Q (map stage ps)
-each-of Q stage [] each = tt
-each-of Q stage (p ∷ ps) each = (each 0 (omega arith), each-of Q stage ps (λ s h. each (suc s) (omega arith)))
-
 module _ (F : List ℕ) where
   abbrev ps : List ℕ
   ps = keptAt F (length F)
 
-  abbrev stage : ℕ → Stage
-  stage p = record { direction = getD F p 0; control = dots (masks F) (2 ^ p) }
-
-  stages-are : keptStages F ≡ map stage ps
+  stages-are : keptStages F ≡ map (keptStage F) ps
   unfolding keptStages
   stages-are = refl
 
   stage-count : length (keptStages F) ≡ length ps
-  stage-count = ap length stages-are ∙ length-map ps stage
+  stage-count = ap length stages-are ∙ length-map ps (keptStage F)
 
   pub kept-count : length (keptStages F) ≡ rank F
   kept-count = stage-count ∙ sym (rank-positions F)
 
   kept-directions : directions (keptStages F) ≡ kept F
   unfolding kept
-  kept-directions = ap directions stages-are ∙ map-map (λ s. s .direction) stage ps
+  kept-directions = ap directions stages-are ∙ map-map (λ s. s .direction) (keptStage F) ps
 
   kept-controls : controls (keptStages F) ≡ map (dots (masks F)) (units ps)
-  kept-controls = ap controls stages-are ∙ map-map (λ s. s .control) stage ps ∙ sym (map-map (dots (masks F)) (λ p. 2 ^ p) ps)
+  kept-controls = ap controls stages-are ∙ map-map (λ s. s .control) (keptStage F) ps ∙ sym (map-map (dots (masks F)) (λ p. 2 ^ p) ps)
 
   control-count : length (controls (keptStages F)) ≡ length ps
   control-count = length-map (keptStages F) (λ s. s .control) ∙ stage-count
 
-  control-at : (s : ℕ) → s < length ps → getD (controls (keptStages F)) s 0 ≡ dots (masks F) (2 ^ getD ps s 0)
+  control-at : (s : ℕ) → s < length ps → getD (controls (keptStages F)) s 0 ≡ row (masks F) (getD ps s 0)
   control-at s h =
       let none = linear-zero (dots (masks F)) (dots-xor (masks F)) in
       ap₂ (λ (l : List ℕ) (d : ℕ). getD l s d) kept-controls (sym none) ∙ List·getD-map (dots (masks F)) (units ps) s 0 ∙ ap (dots (masks F)) (units-at ps s h)
 
-  control-bit : (p j : ℕ) → j < length F → bit j (dots (masks F) (2 ^ p)) ≡ bit p (mask F j)
+  control-bit : (p j : ℕ) → j < length F → bit j (row (masks F) p) ≡ bit p (mask F j)
   control-bit p j h =
       dots-bit (masks F) (2 ^ p) j (rw (masks-length F) h) ∙ ap (λ (m : ℕ). dot m (2 ^ p)) (masks-at F j h) ∙ dot-unit p (mask F j)
 
@@ -105,14 +99,14 @@ module _ (F : List ℕ) where
     own-mask : mask F p ≡ 2 ^ p
     own-mask = sym (mask-unique F p inside (rw (units-at ps s h) at (sum-member (units ps) s)) (image-unit F p))
 
-    control-least : 1 ≤ dots (masks F) (2 ^ p)
+    control-least : 1 ≤ row (masks F) p
     control-least = pos-of-ne-zero (λ none.
         let odd : bit p 0 ≡ 1 = ap (bit p) (sym none) ∙ control-bit p p inside ∙ ap (bit p) own-mask ∙ bit-same p in
         omega (arith, zero-div (2 ^ p)))
 
   kept-range : (k : ℕ) → AllBelow (2 ^ k) F → EachStage (StageInRange (2 ^ k) (2 ^ length F)) (keptStages F)
   kept-range k below =
-      rw stages-are (each-of (StageInRange (2 ^ k) (2 ^ length F)) stage ps (λ s h. record {
+      rw stages-are (each-of (StageInRange (2 ^ k) (2 ^ length F)) (keptStage F) ps (λ s h. record {
         direction = record { least = direction-least s h; most = le-ones k (below (getD ps s 0) (inside s h)) };
         control = record { least = control-least s h; most = le-ones (length F) (rw (masks-length F) at (dots-lt (masks F) (2 ^ getD ps s 0))) };
       }))
@@ -161,8 +155,7 @@ module _ (n k : ℕ) (f : ℕ → ℕ) (within : k ≤ n) (linear : Linear f) (i
 
   pub side-few : length (sideFor n k f .stages) ≤ min k (tickBits n k)
   side-few =
-      let count : length (S .stages) ≡ rank tick-columns = stage-count tick-columns ∙ sym (rank-positions tick-columns) in
-      omega (arith, rank-width k tick-columns tick-below, rank-le-length tick-columns tick-columns (λ j h. sum-member tick-columns j), tick-count)
+      omega (arith, kept-count tick-columns, rank-width k tick-columns tick-below, rank-le-length tick-columns tick-columns (λ j h. sum-member tick-columns j), tick-count)
 
   pub side-layable : (e : Edition) → k ≤ e .most-stages → Layable e n k (sideFor n k f)
   side-layable e room = record {

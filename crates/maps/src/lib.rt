@@ -1,10 +1,10 @@
 // The two maps of a sheet: which cell each word has, on the write side and on the read side.
 ghost use mathlib.Core.Path.{_≡_};
-ghost use Prim.Native.Nat.{_+_, _*_, _/_, _%_, _^_, _≤_};
+ghost use Prim.Native.Nat.{_+_, _*_, _%_, _^_, _≤_};
 ghost use lib.ListN.{length, getD};
 ghost use Rattle.kinds.specs.Edition.{edition1, sidePlaces};
 ghost use Rattle.kinds.specs.Frame.{wordAt};
-ghost use Rattle.sheet.specs.Sheet.{stagesIn};
+ghost use Rattle.sheet.specs.Sheet.{stagesFrom};
 ghost use Rattle.maps.specs.Cells.{afterStages};
 ghost use Rattle.maps.specs.Opened.{openWidth, padded as paddedOf, Opens, IsAddress, IsBank, IsCell, AreColumns, ListsCells};
 ghost use Rattle.maps.specs.Inside.{OpensSide, IsColumn, Doubled};
@@ -18,7 +18,7 @@ use kinds::Tick;
 // Places of an opened side for its columns, of either kind, and for its stages.
 const WIDTH: usize = 16;
 
-// A side of a sheet that keeps the layout, with zeros after what it uses, so that each loop below has a fixed end.
+// A side of a sheet that keeps the layout, with zeros after what it uses: a column or a direction of 0 changes nothing, so a loop may go through every place.
 pub struct OpenSide {
     k: u32,
     addresses: [u16; WIDTH],
@@ -180,7 +180,7 @@ impl OpenSide {
 
 // Each stage xors its direction into the bank if its control AND the tick has an odd number of ones. Lent are the numbers of the stages, as they stand on a sheet.
 pub fn after_stages(stages: &[u16], tick: Tick, bank: Bank) -> Bank
-    ensures { λ r. ⌜ r .0 ≡ afterStages (stagesIn (length (now (stages .entry)) / 2) (now (stages .entry))) (tick .0) (bank .0) ⌝ }
+    ensures { λ r. ⌜ r .0 ≡ afterStages (stagesFrom (now (stages .entry))) (tick .0) (bank .0) ⌝ }
 {
     let mut b = bank.0;
     let mut s = 0;

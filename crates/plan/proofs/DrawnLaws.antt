@@ -2,7 +2,7 @@
 --   addresses-drawn     the address columns are the ticks of the order's columns
 --   wiring-drawn        the wiring is the banks of the first k of them, through the read stages
 --   tick-part-drawn     the tick-to-bank part is the banks of the others
-use Prim.Native.Nat.{ℕ, _+_, _-_, _/_, _^_, _<_, _≤_}
+use Prim.Native.Nat.{ℕ, _+_, _-_, _^_, _<_, _≤_}
 use mathlib.Core.Path.{_≡_, sym, ap, _∙_}
 use mathlib.Core.List.{List, map}
 use native.Mathlib.Nat.{add-sub-cancel-left}
@@ -16,9 +16,9 @@ use Rattle.bits.specs.Image.{image, columns}
 use Rattle.bits.proofs.ImageLaws.{image-unit, image-lt, image-identity, image-shifted, columns-length, columns-at}
 use Rattle.span.proofs.ScanLaws.{map-at}
 use Rattle.order.specs.Order.{place, Order}
-use Rattle.sheet.specs.Sheet.{Stage, stagesIn, flat}
+use Rattle.sheet.specs.Sheet.{Stage, flat}
 use Rattle.sheet.specs.Layout.{InRange}
-use Rattle.sheet.proofs.LayLaws.{padded-at, padded-length, flat-length, flat-stages}
+use Rattle.sheet.proofs.LayLaws.{padded-at, padded-length, flat-from}
 use Rattle.maps.specs.Cells.{afterStages, portToBank, tickToBank}
 use Rattle.maps.specs.Opened.{openWidth, padded}
 use Rattle.maps.proofs.CellLaws.{address-of-cell, bank-of-cell}
@@ -41,17 +41,12 @@ module _ (n k : ℕ) (C : List ℕ) (within : k ≤ n) (order : Order n C) (read
       ∙ image-shifted n k x (image-lt n C (order .below) (2 ^ j))
       ∙ ap (tickOf k) (image-unit C j)
 
-  same-stages : stagesIn (length G / 2) G ≡ readStages n k C
-  same-stages =
-      let ss = readStages n k C in
-      ap (λ (m : ℕ). stagesIn m G) {x = length G / 2} {y = length ss} (omega (arith, flat-length ss)) ∙ flat-stages ss
-
   bank-column : (j : ℕ) → bankOf k (f (2 ^ j)) ≡ bankThrough k G (getD C j 0)
   bank-column j =
       let x : ℕ = place C (2 ^ j) in
       bank-of-cell read (tickOf k x) (portOf k x)
       ∙ ap (afterStages (readStages n k C) (tickOf k x)) (image-identity k (portOf k x) (port-lt k x))
-      ∙ ap (λ (ss : List Stage). afterStages ss (tickOf k x) (portOf k x)) (sym same-stages)
+      ∙ ap (λ (ss : List Stage). afterStages ss (tickOf k x) (portOf k x)) (sym (flat-from (readStages n k C)))
       ∙ ap (bankThrough k G) (image-unit C j)
 
   abbrev banks : List ℕ

@@ -3,7 +3,6 @@ pub mod PairLaws
 pub mod ChoiceLaws
 pub mod WiringLaws
 pub mod PlannedLaws
-pub mod FillLaws
 pub mod ListedLaws
 pub mod DrawnLaws
 pub mod ToolLaws

@@ -12,12 +12,12 @@
 --   Pairable ds cs           there are as many directions ds as controls cs, and a side has room for these stages
 --   Shiftable k C            there is room for the columns C, and k is less than their 16 bits
 --   FewKept F                there is room for the columns F, and a side has room for as many stages as a scan of them keeps
---   ReadRoom n k G l         sizes are sound, G are the numbers of some stages, no more than a side may have, and l is all places of a side
+--   ReadRoom n k G l         sizes are sound, G has two numbers for each stage, for no more than a side may have, and l is all places of a side
 --   WriteRoom n k C G l      sizes and order are sound, G are the numbers of its read stages, and l is all places of a side
---   SideRoom A W G l         l is all places of a side, with room for address columns A, wiring columns W and the numbers G of some stages
+--   SideRoom A W G l         l is all places of a side, with room for address columns A, wiring columns W and the numbers G, two for each stage
 --   LaysOut A W G l          the places l are a side with these
 --   LaysRead n k G l         the places l are a side whose address is the tick, whose wiring is the identity, and whose stages have the numbers G
-use Prim.Native.Nat.{ℕ, _+_, _-_, _*_, _/_, _^_, _<_, _≤_}
+use Prim.Native.Nat.{ℕ, _+_, _-_, _*_, _%_, _^_, _<_, _≤_}
 use mathlib.Core.Path.{_≡_}
 use mathlib.Core.Bool.{Bool, Bool-discrete}
 use mathlib.Core.List.{List}
@@ -29,7 +29,7 @@ use Rattle.kinds.specs.Search.{those}
 use Rattle.bits.specs.Image.{columns}
 use Rattle.span.specs.Scan.{rank, units}
 use Rattle.order.specs.Order.{Order}
-use Rattle.sheet.specs.Sheet.{Stage, stagesIn, flat, laidOut}
+use Rattle.sheet.specs.Sheet.{Stage, stagesFrom, flat, laidOut}
 use Rattle.maps.specs.Cells.{afterStages}
 use Rattle.maps.specs.Opened.{openWidth, openStages, padded}
 use Rattle.plan.specs.Planned.{readStages}
@@ -58,7 +58,7 @@ abbrev pub unitsOf : List ℕ → Listed
 unitsOf ps = record { units = padded (units ps); count = length ps }
 
 abbrev pub bankThrough : ℕ → List ℕ → ℕ → ℕ
-bankThrough k G x = afterStages (stagesIn (length G / 2) G) (tickOf k x) (portOf k x)
+bankThrough k G x = afterStages (stagesFrom G) (tickOf k x) (portOf k x)
 
 pub record Narrow (C : List ℕ) (m : ℕ) : Type 0 where
   pub columns : length C ≤ openWidth
@@ -87,7 +87,7 @@ pub record FewKept (F : List ℕ) : Type 0 where
 
 pub record ReadRoom (n k : ℕ) (G l : List ℕ) : Type 0 where
   pub sized : Sized edition1 n k
-  pub whole : (ss : List Stage) × (G ≡ flat ss)
+  pub even : length G % 2 ≡ 0
   pub stages : length G ≤ 2 * edition1 .most-stages
   pub side : length l ≡ sidePlaces edition1
 
@@ -99,12 +99,12 @@ pub record WriteRoom (n k : ℕ) (C G l : List ℕ) : Type 0 where
 pub record SideRoom (A W G l : List ℕ) : Type 0 where
   pub addresses : length A ≤ edition1 .most-n
   pub wiring : length W ≤ edition1 .most-k
-  pub whole : (ss : List Stage) × (G ≡ flat ss)
+  pub even : length G % 2 ≡ 0
   pub stages : length G ≤ 2 * edition1 .most-stages
   pub side : length l ≡ sidePlaces edition1
 
 abbrev pub LaysOut : List ℕ → List ℕ → List ℕ → List ℕ → Type 0
-LaysOut A W G l = (ss : List Stage) → G ≡ flat ss → l ≡ laidOut edition1 (record { addresses = A; wiring = W; stages = ss })
+LaysOut A W G l = l ≡ laidOut edition1 (record { addresses = A; wiring = W; stages = stagesFrom G })
 
 abbrev pub LaysRead : ℕ → ℕ → List ℕ → List ℕ → Type 0
 LaysRead n k G l = LaysOut (columns n (tickOf k)) (columns k (λ p. p)) G l

@@ -1,34 +1,34 @@
 -- A side that is laid out is read as it was written.
+--   zeros-at          zeros are 0 at each place, and beyond the last
 --   padded-length     a list that is padded to m has m numbers
 --   padded-at         it shows the numbers of the list, and zeros after them
 --   padded-unique     a list of m numbers that shows the numbers of another is that one, padded
---   padded-used       padding a list or its beginning is the same where the rest is zero
---   padded-part       the part of it that is used, as a part that starts at 0
+--   padded-whole      a list of m numbers is padded already
+--   padded-part       the part of a padded list that is used, as a part that starts at 0
 --   padded-snoc       the first zero of a padded list, replaced, is one number more of the list
---   flat-snoc         one stage more is two numbers more
+--   padded-used       padding a list or its beginning is the same where the rest is zero
 --   flat-length       there are two numbers for a stage
 --   stage-more        one stage more, written after the others
 --   flat-part         stages that are read off some places are the first of these places
---   flat-stages       the numbers of some stages are read as these stages
---   laid-length       a side that is laid out has the places of a side
---   laid-side         it is read as the side that it was
---   laid-formed       it keeps the layout
---   sheet-length, sheet-write, sheet-read, sheet-formed    so a sheet with two such sides has the places of a sheet, shows both, and keeps the layout
-use Prim.Native.Nat.{ℕ, zero, suc, _+_, _-_, _*_, _≤_, _<_}
+--   from-flat         numbers, two for each stage, are the numbers of the stages that are read off them
+--   flat-stages, flat-from    the numbers of some stages are read as these stages
+--   same-side         two sides with the same columns and stages are one
+--   sheet-length, sheet-write, sheet-read, sheet-formed    a sheet with two sides that can be laid out has the places of a sheet, shows both, and keeps the layout
+use Prim.Native.Nat.{ℕ, zero, suc, _+_, _-_, _*_, _/_, _%_, _≤_, _<_}
 use mathlib.Core.Path.{_≡_, refl, sym, ap, ap₂, _∙_}
 use mathlib.Core.List.{List, [], _∷_, _++_, append-assoc}
 use native.Mathlib.Decide.{decLt}
 use native.Mathlib.Numerals.{add-one}
 use native.Mathlib.Omega.{arith}
 use lib.ListN.{length, getD, set, take, drop, replicate, length-take, length-append, length-replicate, List·getD-append, List·getD-eq-default}
-use lib.Seq.{take-suc, take-at, drop-at, drop-drop, getD-at, getD-drop, getD-append-add, set-append-seam, ext-getD}
+use lib.Seq.{take-suc, take-all, take-at, drop-at, drop-drop, getD-at, getD-drop, getD-append-add, set-append-seam, ext-getD}
 use Rattle.kinds.specs.Edition.{Edition, Sized, sidePlaces, sheetPlaces}
-use Rattle.sheet.specs.Sheet.{Stage, Side, addressPlaces, wiringPlaces, countPlace, stagePlaces, stageAt, stagesIn, sideOf, writePlaces, readPlaces, writeSide, readSide, paddedTo, flat, laidOut, sheetOf}
+use Rattle.sheet.specs.Sheet.{Stage, Side, addressPlaces, wiringPlaces, countPlace, stagePlaces, stageAt, stagesIn, stagesFrom, sideOf, writePlaces, readPlaces, writeSide, readSide, paddedTo, flat, laidOut, sheetOf}
 use Rattle.sheet.specs.Layout.{AllZero, FormedSide, WellFormed, Layable}
 use Rattle.sheet.proofs.StageLaws.{same-stages}
 use Rattle.sheet.proofs.PlaceLaws.{take-same}
 
-zeros-at : (m j : ℕ) → _≡_ {A = ℕ} (getD (replicate m 0) j 0) 0
+pub zeros-at : (m j : ℕ) → _≡_ {A = ℕ} (getD (replicate m 0) j 0) 0
 zeros-at zero j = refl
 zeros-at (suc m) zero = refl
 zeros-at (suc m) (suc j) = zeros-at m j
@@ -53,6 +53,9 @@ module _ (m : ℕ) (l : List ℕ) where
   pub padded-unique : (r : List ℕ) → length l ≤ m → length r ≡ m → ((j : ℕ) → getD r j 0 ≡ getD l j 0) → r ≡ paddedTo m l
   padded-unique r few whole same = ext-getD 0 r (paddedTo m l) (whole ∙ sym (padded-length few)) (λ j h. same j ∙ sym (padded-at j))
 
+  pub padded-whole : length l ≡ m → paddedTo m l ≡ l
+  padded-whole whole = sym (padded-unique l (omega arith) whole (λ j. refl))
+
   padded-rest : (n : ℕ) → length l ≡ n → AllZero (drop n (paddedTo m l))
   padded-rest n e j h = ap (λ (r : List ℕ). getD r j 0) (drop-at l zeros n e) ∙ zeros-at (m - length l) j
 
@@ -73,7 +76,7 @@ padded-used m u l few unused =
 
 -- stages as they stand on a sheet
 
-pub flat-snoc : (ss : List Stage) (s : Stage) → flat (ss ++ (s ∷ [])) ≡ flat ss ++ (s .direction ∷ s .control ∷ [])
+flat-snoc : (ss : List Stage) (s : Stage) → flat (ss ++ (s ∷ [])) ≡ flat ss ++ (s .direction ∷ s .control ∷ [])
 flat-snoc [] s = refl
 flat-snoc (t ∷ ss) s = ap (λ (l : List ℕ). t .direction ∷ t .control ∷ l) (flat-snoc ss s)
 
@@ -103,6 +106,9 @@ flat-part (suc m) l h =
     ∙ sym (take-suc l (suc (2 * m)) 0 (omega arith))
     ∙ ap (λ (x : ℕ). take x l) {x = suc (suc (2 * m))} {y = 2 * suc m} (omega arith)
 
+pub from-flat : (l : List ℕ) → length l % 2 ≡ 0 → flat (stagesFrom l) ≡ l
+from-flat l even = flat-part (length l / 2) l (omega arith) ∙ take-all (2 * (length l / 2)) l (omega arith)
+
 stages-cons : (m d c : ℕ) (l : List ℕ) → stagesIn (suc m) (d ∷ c ∷ l) ≡ record { direction = d; control = c } ∷ stagesIn m l
 unfolding stagesIn
 stages-cons zero d c l = refl
@@ -117,7 +123,14 @@ unfolding stagesIn
 flat-stages [] = refl
 flat-stages (s ∷ ss) = stages-cons (length ss) (s .direction) (s .control) (flat ss) ∙ ap (λ (ts : List Stage). s ∷ ts) (flat-stages ss)
 
+pub flat-from : (ss : List Stage) → stagesFrom (flat ss) ≡ ss
+flat-from ss = ap (λ (m : ℕ). stagesIn m (flat ss)) {x = length (flat ss) / 2} {y = length ss} (omega (arith, flat-length ss)) ∙ flat-stages ss
+
 -- a side, and a sheet
+
+pub same-side : {a b x y : List ℕ} {c z : List Stage} → a ≡ x → b ≡ y → c ≡ z
+    → _≡_ {A = Side} (record { addresses = a; wiring = b; stages = c }) (record { addresses = x; wiring = y; stages = z })
+same-side e f g = cc
 
 module _ (e : Edition) (n k : ℕ) (sized : Sized e n k) where
   module _ (S : Side) (s : Layable e n k S) where
@@ -142,7 +155,7 @@ module _ (e : Edition) (n k : ℕ) (sized : Sized e n k) where
     wiring-length : length wiring ≡ e .most-k
     wiring-length = padded-length (e .most-k) (S .wiring) (omega (arith, s .wiring, sized .most))
 
-    pub laid-length : length (laidOut e S) ≡ sidePlaces e
+    laid-length : length (laidOut e S) ≡ sidePlaces e
     laid-length =
         let stages-length = padded-length room (flat (S .stages)) (omega (arith, flat-length (S .stages), s .stages)) in
         omega (arith, length-append addresses (wiring ++ from-count), length-append wiring from-count, addresses-length, wiring-length, stages-length)
@@ -169,19 +182,15 @@ module _ (e : Edition) (n k : ℕ) (sized : Sized e n k) where
     laid-stages : stagePlaces e (laidOut e S) ≡ stages
     laid-stages = sym (drop-drop 1 (e .most-n + e .most-k) (laidOut e S)) ∙ ap (drop 1) after-wiring
 
-    pub laid-side : sideOf e n k (laidOut e S) ≡ S
-    laid-side = is
+    laid-side : sideOf e n k (laidOut e S) ≡ S
+    laid-side = same-side
         (ap (take n) laid-addresses ∙ take-at (S .addresses) (zeros (e .most-n) (S .addresses)) n (s .addresses))
         (ap (take k) laid-wiring ∙ take-at (S .wiring) (zeros (e .most-k) (S .wiring)) k (s .wiring))
         (ap₂ stagesIn laid-count laid-stages
         ∙ same-stages (length (S .stages)) stages (flat (S .stages)) (padded-at room (flat (S .stages)))
         ∙ flat-stages (S .stages))
-      where
-        is : {a b x y : List ℕ} {c z : List Stage} → a ≡ x → b ≡ y → c ≡ z
-            → _≡_ {A = Side} (record { addresses = a; wiring = b; stages = c }) (record { addresses = x; wiring = y; stages = z })
-        is e f g = cc
 
-    pub laid-formed : FormedSide e n k (laidOut e S)
+    laid-formed : FormedSide e n k (laidOut e S)
     laid-formed = record {
       count = rw laid-count (s .stages);
       used = rw laid-side (s .used);

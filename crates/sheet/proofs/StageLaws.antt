@@ -6,12 +6,13 @@
 --   total-more      one stage more adds what it counts
 --   total-const     where every stage counts the same, the sum is a product
 --   gates-few       stages with controls of 16 bits have at most 15 xor gates each
+--   each-of         the stages for some numbers all have Q when the stage for each of the numbers has
 --   each-stage      the first m stages all have Q exactly when the stage at each place below m has
 --   formed-stage    a stage of a side that keeps the layout is in range
 --   controlled      the stages of a side that keeps the layout have controls that are not 0, and room
 use Prim.Native.Nat.{ℕ, zero, suc, _+_, _*_, _^_, _≤_, _<_}
 use mathlib.Core.Path.{_≡_, refl, ap, ap₂, _∙_}
-use mathlib.Core.List.{List, [], _∷_, _++_}
+use mathlib.Core.List.{List, [], _∷_, _++_, map}
 use mathlib.Core.Logic.{_↔_}
 use native.Mathlib.Numerals.{add-one}
 use native.Mathlib.Nat.{suc-mul}
@@ -70,6 +71,10 @@ module _ (Q : Stage → Type 0) where
   each-append (s ∷ ss) ts =
       let rest = each-append ss ts in
       (λ (q, e). ((q, rest .0 e .0), rest .0 e .1), λ ((q, e), f). (q, rest .1 (e, f)))
+
+  pub each-of : (stage : ℕ → Stage) (ps : List ℕ) → ((s : ℕ) → s < length ps → Q (stage (getD ps s 0))) → EachStage Q (map stage ps)
+  each-of stage [] each = tt
+  each-of stage (p ∷ ps) each = (each 0 (omega arith), each-of stage ps (λ s h. each (suc s) (omega arith)))
 
   module _ (l : List ℕ) where
     each-at : (m : ℕ) → EachStage Q (stagesIn m l) → (s : ℕ) → s < m → Q (stageAt l s)

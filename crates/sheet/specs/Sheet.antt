@@ -4,6 +4,7 @@
 --   addressPlaces e l, wiringPlaces e l, countPlace e l, stagePlaces e l      the rows of 01's table, where l is all places of a side
 --   stageAt l s           stage s of the stage places l: "direction then control"
 --   stagesIn m l          the first m stages of the stage places l
+--   stagesFrom l          the stages whose numbers are l, as they stand on a sheet
 --   sideOf e n k l        the side whose places are l: n address columns, k wiring columns, and as many stages as the count says
 --   writePlaces e s, readPlaces e s          the places of the write side ("the first 32") and of the read side ("the last 32") of the sheet s
 --   writeSide e n k s, readSide e n k s      the two sides
@@ -12,7 +13,7 @@
 --   flat ss               the numbers of the stages ss, as they stand on a sheet: direction, control, direction, ..
 --   laidOut e S           all places of a side that says S. "Unused places are zero"
 --   sheetOf e W R         the sheet with the write side W and the read side R
-use Prim.Native.Nat.{ℕ, zero, suc, _+_, _-_, _*_}
+use Prim.Native.Nat.{ℕ, zero, suc, _+_, _-_, _*_, _/_}
 use mathlib.Core.List.{List, [], _∷_, _++_}
 use lib.ListN.{length, take, drop, getD, replicate}
 use Rattle.kinds.specs.Edition.{Edition, sidePlaces}
@@ -44,6 +45,9 @@ stageAt l s = record { direction = getD l (2 * s) 0; control = getD l (2 * s + 1
 unfoldable pub stagesIn : ℕ → List ℕ → List Stage
 stagesIn zero l = []
 stagesIn (suc s) l = stagesIn s l ++ (stageAt l s ∷ [])
+
+abbrev pub stagesFrom : List ℕ → List Stage
+stagesFrom l = stagesIn (length l / 2) l
 
 abbrev pub sideOf : Edition → ℕ → ℕ → List ℕ → Side
 sideOf e n k l = record {

@@ -10,7 +10,7 @@ use lib.Bits.{bitXor, bitAnd, xor-zero-r}
 use lib.ListN.{length}
 use Rattle.bits.specs.Parity.{parity, dot}
 use Rattle.bits.proofs.ParityLaws.{dot-lt}
-use Rattle.sheet.specs.Sheet.{stageAt, stagesIn}
+use Rattle.sheet.specs.Sheet.{stageAt, stagesIn, stagesFrom}
 use Rattle.maps.specs.Cells.{switched, afterStages}
 use Rattle.maps.proofs.OpenLaws.{after-none, after-more}
 use Rattle.maps.proofs.after_stages.Statement.{statement}
@@ -34,7 +34,7 @@ module _ {l : List ℕ} {c b₀ b s : ℕ} (next : ℕ) (i : Switching l c b₀ 
       let even : dot (stageAt l s .control) c ≡ 0 = omega (arith, dot-lt (stageAt l s .control) c) in
       more (rw even (e ∙ sym (xor-zero-r b)))
 
-done : {l : List ℕ} {c b₀ b s : ℕ} → Switching l c b₀ b s → length l / 2 ≤ s → b ≡ afterStages (stagesIn (length l / 2) l) c b₀
+done : {l : List ℕ} {c b₀ b s : ℕ} → Switching l c b₀ b s → length l / 2 ≤ s → b ≡ afterStages (stagesFrom l) c b₀
 done {l} {c} {b₀} i end = i .bank ∙ ap (λ (s : ℕ). afterStages (stagesIn s l) c b₀) (omega arith)
 
 abbrev Inv-loop : tie.InvT-loop

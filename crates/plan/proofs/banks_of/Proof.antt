@@ -8,14 +8,15 @@ use borrow.Author.Needs.{needs}
 use mir.Facts.{fits-widen}
 use lib.Pow.{pow-pos}
 use lib.ListN.{length, length-map}
+use Rattle.sheet.proofs.FillLaws.{Filled, fill-none, fill-value, fill-all}
+use Rattle.maps.specs.Opened.{openWidth}
 use Rattle.maps.proofs.OpenLaws.{after-lt}
 use Rattle.plan.specs.Inside.{bankThrough}
-use Rattle.plan.proofs.FillLaws.{Filled, fill-none, fill-value, fill-all}
 use Rattle.plan.proofs.banks_of.Statement.{statement}
 use Rattle.plan.proofs.banks_of.Tie as tie
 
 abbrev Inv-loop : tie.InvT-loop
-Inv-loop places k stages banks₀ ports j₀ banks j = Filled (map (bankThrough k stages) places) banks j
+Inv-loop places k stages banks₀ ports j₀ banks j = Filled openWidth (map (bankThrough k stages) places) banks j
 
 abbrev μ-loop : tie.MeasureT-loop
 μ-loop places k stages banks₀ ports j₀ banks j = length places - j

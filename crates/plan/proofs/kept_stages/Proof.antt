@@ -1,37 +1,33 @@
 -- `plan::kept_stages` meets its contract. The invariant: the stages of the columns kept among the first j stand, and the count is theirs.
-use Prim.Native.Nat.{ℕ, _≤_, _<_, _+_, _-_, _*_, _^_}
+use Prim.Native.Nat.{ℕ, _≤_, _<_, _+_, _-_, _*_}
 use mathlib.Core.Path.{_≡_, refl, sym, ap}
 use mathlib.Core.Bool.{Bool, true, false}
 use mathlib.Core.List.{List, [], _∷_, _++_, map, map-append}
-use mathlib.Core.Logic.{⊎-elim, _↔_}
+use mathlib.Core.Logic.{⊎-elim}
 use native.Mathlib.Numerals.{add-one}
 use native.Mathlib.Omega.{arith}
 use borrow.Author.Needs.{needs}
-use mir.Facts.{fits-widen}
 use lib.ListN.{length, getD, set, replicate, length-map, length-append}
 use lib.Seq.{take-at}
 use Rattle.kinds.specs.Answers.{Says}
 use Rattle.kinds.proofs.TruthLaws.{denied}
 use Rattle.span.specs.Scan.{IsKept, keptAt, masks}
-use Rattle.span.specs.Rows.{dots}
+use Rattle.span.specs.Rows.{row}
 use Rattle.span.proofs.ScanLaws.{kept-or-sum, keptAt-old, keptAt-new, keptAt-longer}
 use Rattle.span.proofs.RankLaws.{rank-positions}
-use Rattle.span.proofs.MaskLaws.{mask-says, masks-length, masks-at}
+use Rattle.span.proofs.MaskLaws.{masks-length, masks-at}
 use Rattle.sheet.specs.Sheet.{Stage, flat}
 use Rattle.sheet.proofs.LayLaws.{stage-more}
 use Rattle.maps.specs.Opened.{openWidth, openStages, padded}
-use Rattle.maps.specs.Stages.{keptStages}
+use Rattle.maps.specs.Stages.{keptStage, keptStages}
 use Rattle.plan.specs.Inside.{FewKept, staged, keptIn}
 use Rattle.plan.proofs.kept_stages.Statement.{statement}
 use Rattle.plan.proofs.kept_stages.Tie as tie
 use Rattle.plan.proofs.ListedLaws.{told}
 
-abbrev stageFor : List ℕ → ℕ → Stage
-stageFor F p = record { direction = getD F p 0; control = dots (masks F) (2 ^ p) }
-
 -- of the columns kept among the first j
 abbrev stagesAt : List ℕ → ℕ → List Stage
-stagesAt F j = map (stageFor F) (keptAt F j)
+stagesAt F j = map (keptStage F) (keptAt F j)
 
 record Keeping (F ms numbers : List ℕ) (count j : ℕ) : Type 0 where
   few : FewKept F
@@ -50,21 +46,21 @@ module _ {F ms numbers : List ℕ} {count j : ℕ} (i : Keeping F ms numbers cou
     says = rw e (told F ms j (rw (i .masked) (masks-at F j h)))
 
     module _ (taken : b ≡ true) where
-      next : stagesAt F (j + 1) ≡ stagesAt F j ++ (stageFor F j ∷ [])
-      next = rw (add-one j, keptAt-new F j (says .0 taken)) (map-append (stageFor F) (keptAt F j) (j ∷ []))
+      next : stagesAt F (j + 1) ≡ stagesAt F j ++ (keptStage F j ∷ [])
+      next = rw (add-one j, keptAt-new F j (says .0 taken)) (map-append (keptStage F) (keptAt F j) (j ∷ []))
 
       counts : length (stagesAt F (j + 1)) ≡ count + 1
-      counts = rw next (omega (arith, length-append (stagesAt F j) (stageFor F j ∷ [])))
+      counts = rw next (omega (arith, length-append (stagesAt F j) (keptStage F j ∷ [])))
 
       room : count < openStages
-      room = omega (arith, counts, length-map (keptAt F (j + 1)) (stageFor F), keptAt-longer F {i = j + 1} {j = length F} (omega arith), rank-positions F)
+      room = omega (arith, counts, length-map (keptAt F (j + 1)) (keptStage F), keptAt-longer F {i = j + 1} {j = length F} (omega arith), rank-positions F)
 
-      more : {control : ℕ} → control ≡ dots ms (2 ^ j) → Keeping F ms (set (set numbers (2 * count) (getD F j 0)) (2 * count + 1) control) (count + 1) (j + 1)
+      more : {control : ℕ} → control ≡ row ms j → Keeping F ms (set (set numbers (2 * count) (getD F j 0)) (2 * count + 1) control) (count + 1) (j + 1)
       more c = record {
         few = i .few;
         masked = i .masked;
         within = omega arith;
-        so-far = rw (next, i .so-far, c, i .masked, i .counted) (stage-more openWidth (stagesAt F j) (stageFor F j) (omega (arith, room)));
+        so-far = rw (next, i .so-far, c, i .masked, i .counted) (stage-more openWidth (stagesAt F j) (keptStage F j) (omega (arith, room)));
         counted = sym counts;
       }
 
@@ -148,9 +144,9 @@ loop-less c = search needs
 loop-again : tie.Need-loop-again Inv-loop μ-loop
 loop-again c =
     let inv = c .before .before .before .loop .inv in
-    let told = c .before .was-kept .ensures in
-    ⊎-elim (λ w. rw (w .3, w .4) (more inv (omega arith) told (w .0 .taken) (w .2 .ensures)))
-    (λ w. rw (w .1, w .2) (skip inv (omega arith) told (w .0 .left)))
+    let kept = c .before .was-kept .ensures in
+    ⊎-elim (λ w. rw (w .3, w .4) (more inv (omega arith) kept (w .0 .taken) (w .2 .ensures)))
+    (λ w. rw (w .1, w .2) (skip inv (omega arith) kept (w .0 .left)))
     (c .if1 .came)
 
 returns : tie.Need-returns Inv-loop μ-loop

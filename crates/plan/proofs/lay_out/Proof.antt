@@ -8,7 +8,8 @@ use lib.ListN.{length, take, drop, set, length-set, length-append, length-take, 
 use lib.Seq.{length-take-le, take-at, take-suc-set}
 use Rattle.kinds.specs.Edition.{edition1, sidePlaces}
 use Rattle.sheet.specs.Sheet.{paddedTo}
-use Rattle.sheet.proofs.LayLaws.{flat-length}
+use Rattle.sheet.proofs.StageLaws.{stages-length}
+use Rattle.sheet.proofs.LayLaws.{from-flat}
 use Rattle.plan.proofs.lay_out.Statement.{statement}
 use Rattle.plan.proofs.lay_out.Tie as tie
 
@@ -131,11 +132,10 @@ returns : tie.Need-returns
 returns c =
     let lent = c .before .before .before .before in
     let stages = start lent .args .stages .now in
-    λ ss e.
-    laid (so-far lent) (addressed lent) (wired lent) (omega (arith, ap length e, flat-length ss))
+    laid (so-far lent) (addressed lent) (wired lent) (sym (stages-length (length stages / 2) stages))
     (c .before .before .pad-into3 .ensures
     ∙ ap (λ (m : ℕ). paddedTo m stages) (simp (length-take, length-drop) (omega (arith, whole lent)))
-    ∙ ap (paddedTo 16) e)
+    ∙ ap (paddedTo 16) (sym (from-flat stages (start lent .pre .even))))
 
 pub lay-out-spec : {M : Type 1} → statement M
 lay-out-spec =

@@ -1,6 +1,6 @@
 -- `plan::lay_read_side` meets its contract.
 use Prim.Native.Nat.{ℕ, _-_, _^_}
-use mathlib.Core.Path.{sym, ap, ap₂, _∙_}
+use mathlib.Core.Path.{refl, sym, ap, _∙_}
 use mathlib.Core.List.{List}
 use native.Mathlib.Nat.{div-one}
 use borrow.Author.Needs.{needs}
@@ -9,8 +9,9 @@ use Rattle.kinds.specs.Edition.{edition1}
 use Rattle.kinds.specs.Frame.{tickOf}
 use Rattle.bits.specs.Image.{columns}
 use Rattle.bits.proofs.ImageLaws.{columns-length, columns-same}
-use Rattle.sheet.specs.Sheet.{laidOut}
-use Rattle.sheet.proofs.LayLaws.{padded-part}
+use Rattle.sheet.specs.Sheet.{stagesFrom, laidOut}
+use Rattle.sheet.proofs.LayLaws.{padded-part, same-side}
+use Rattle.maps.specs.Opened.{openWidth}
 use Rattle.plan.proofs.lay_read_side.Statement.{statement}
 use Rattle.plan.proofs.lay_read_side.Tie as tie
 
@@ -45,15 +46,17 @@ same-length : tie.Need-same-length
 same-length c = search needs
 
 returns : tie.Need-returns
-returns c ss e =
+returns c =
     let drawn = c .before .before .before .before .before .before .before .before in
-    let n : ℕ = drawn .before .before .before .before .args .n in
-    let k : ℕ = drawn .before .before .before .before .args .k in
-    c .before .before .lay-out .ensures ss e
-    ∙ ap₂ (λ (A W : List ℕ). laidOut edition1 (record { addresses = A; wiring = W; stages = ss }))
-    (ap (λ (l : List ℕ). take (n - 0) l) (drawn .before .unit-columns .ensures) ∙ padded-part 16 (columns n (tickOf k)) n (sym (columns-length n (tickOf k))))
-    (ap (λ (l : List ℕ). take (k - 0) l) (drawn .unit-columns2 .ensures) ∙ padded-part 16 (columns k (tickOf 0)) k (sym (columns-length k (tickOf 0)))
+    let args = drawn .before .before .before .before .args in
+    let n : ℕ = args .n in
+    let k : ℕ = args .k in
+    c .before .before .lay-out .ensures
+    ∙ ap (laidOut edition1) (same-side {c = stagesFrom (args .stages .now)}
+    (ap (λ (l : List ℕ). take (n - 0) l) (drawn .before .unit-columns .ensures) ∙ padded-part openWidth (columns n (tickOf k)) n (sym (columns-length n (tickOf k))))
+    (ap (λ (l : List ℕ). take (k - 0) l) (drawn .unit-columns2 .ensures) ∙ padded-part openWidth (columns k (tickOf 0)) k (sym (columns-length k (tickOf 0)))
     ∙ columns-same k (tickOf 0) (λ p. p) (λ j h. div-one (2 ^ j)))
+    refl)
 
 pub lay-read-side-spec : {M : Type 1} → statement M
 lay-read-side-spec =

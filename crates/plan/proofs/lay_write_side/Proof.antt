@@ -1,6 +1,6 @@
 -- `plan::lay_write_side` meets its contract. The ticks and the banks of the order's columns are the columns of M.
 use Prim.Native.Nat.{ℕ, _-_, _*_, _≤_}
-use mathlib.Core.Path.{_≡_, ap, ap₂, _∙_, sym}
+use mathlib.Core.Path.{_≡_, ap, _∙_, sym}
 use mathlib.Core.List.{List, map}
 use native.Mathlib.Omega.{arith}
 use borrow.Author.Needs.{needs}
@@ -9,9 +9,9 @@ use Rattle.kinds.specs.Edition.{edition1}
 use Rattle.kinds.specs.Frame.{tickBits, tickOf}
 use Rattle.bits.specs.Image.{columns}
 use Rattle.bits.proofs.ImageLaws.{columns-length}
-use Rattle.sheet.specs.Sheet.{Side, flat, laidOut}
+use Rattle.sheet.specs.Sheet.{Side, stagesFrom, flat, laidOut}
 use Rattle.sheet.specs.Layout.{Layable, InRange}
-use Rattle.sheet.proofs.LayLaws.{padded-length, padded-part, flat-length}
+use Rattle.sheet.proofs.LayLaws.{padded-length, padded-part, flat-length, flat-from, same-side}
 use Rattle.maps.specs.Cells.{tickToBank}
 use Rattle.maps.specs.Opened.{openWidth, padded}
 use Rattle.maps.specs.Stages.{keptStages}
@@ -155,7 +155,7 @@ lay-out-requires c κs =
     record {
       addresses = rw (addresses r) (omega (arith, write d .addresses, sound d .sized .frame .most));
       wiring = rw (wires d) (omega (arith, write d .wiring, sound d .sized .most));
-      whole = (W d .stages, stages r);
+      even = rw (stages r) (omega (arith, flat-length (W d .stages)));
       stages = rw (stages r) (few-numbers r);
       side = start d .pre .side;
     }
@@ -167,8 +167,7 @@ returns : tie.Need-returns
 returns c =
     let r = c .before .before .before .before .before .before .before .before .before .before .before .before in
     let d = drawn r in
-    c .before .before .lay-out .ensures (W d .stages) (stages r)
-    ∙ ap₂ (λ (A X : List ℕ). laidOut edition1 (record { addresses = A; wiring = X; stages = W d .stages })) (addresses r) (wires d)
+    c .before .before .lay-out .ensures ∙ ap (laidOut edition1) (same-side (addresses r) (wires d) (ap stagesFrom (stages r) ∙ flat-from (W d .stages)))
 
 pub lay-write-side-spec : {M : Type 1} → statement M
 lay-write-side-spec =

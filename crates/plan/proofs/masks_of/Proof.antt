@@ -12,14 +12,14 @@ use Rattle.span.specs.declared.Scan.{Scan}
 use Rattle.span.specs.declared.Taken.{Taken}
 use Rattle.span.proofs.MaskLaws.{masks-length, masks-at}
 use Rattle.span.proofs.TakeLaws.{TakenAt, take-at}
+use Rattle.sheet.proofs.FillLaws.{Filled, fill-none, fill-more, fill-all}
 use Rattle.maps.specs.Opened.{openWidth, padded}
-use Rattle.plan.proofs.FillLaws.{Filled, fill-none, fill-more, fill-all}
 use Rattle.plan.proofs.masks_of.Statement.{statement}
 use Rattle.plan.proofs.masks_of.Tie as tie
 
 record Scanning (numbers masks : List ℕ) (scan : Scan) (i : ℕ) : Type 0 where
   holds : Holds scan (take i numbers)
-  filled : Filled (masksOf numbers) masks i
+  filled : Filled openWidth (masksOf numbers) masks i
 
 start : {numbers : List ℕ} {scan : Scan} → length numbers ≤ openWidth → Holds scan [] → Scanning numbers (replicate openWidth 0) scan 0
 start {numbers} few h = record { holds = h; filled = fill-none (omega (arith, masks-length numbers)) }

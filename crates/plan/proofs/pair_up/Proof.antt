@@ -8,12 +8,12 @@ use borrow.Author.Needs.{needs}
 use lib.ListN.{length, getD, set, replicate}
 use Rattle.sheet.specs.Sheet.{flat}
 use Rattle.sheet.proofs.LayLaws.{flat-length}
+use Rattle.sheet.proofs.FillLaws.{Filled, fill-none, fill-more, fill-all}
 use Rattle.maps.specs.Opened.{openWidth}
 use Rattle.plan.specs.Planned.{pairs}
 use Rattle.plan.specs.Inside.{Pairable, staged}
 use Rattle.plan.specs.declared.Stages.{Stages}
 use Rattle.plan.proofs.PairLaws.{pairs-length, pairs-at}
-use Rattle.plan.proofs.FillLaws.{Filled, fill-none, fill-more, fill-all}
 use Rattle.plan.proofs.pair_up.Statement.{statement}
 use Rattle.plan.proofs.pair_up.Tie as tie
 
@@ -21,11 +21,11 @@ module _ {ds cs : List ℕ} (p : Pairable ds cs) where
   size : length (flat (pairs ds cs)) ≡ 2 * length ds
   size = flat-length (pairs ds cs) ∙ ap (λ (m : ℕ). 2 * m) (pairs-length ds cs (p .alike))
 
-  start : Filled (flat (pairs ds cs)) (replicate openWidth 0) 0
+  start : Filled openWidth (flat (pairs ds cs)) (replicate openWidth 0) 0
   start = fill-none (omega (arith, size))
 
-  module _ {numbers : List ℕ} {s : ℕ} (f : Filled (flat (pairs ds cs)) numbers (2 * s)) where
-    more : s < length ds → Filled (flat (pairs ds cs)) (set (set numbers (2 * s) (getD ds s 0)) (2 * s + 1) (getD cs s 0)) (2 * (s + 1))
+  module _ {numbers : List ℕ} {s : ℕ} (f : Filled openWidth (flat (pairs ds cs)) numbers (2 * s)) where
+    more : s < length ds → Filled openWidth (flat (pairs ds cs)) (set (set numbers (2 * s) (getD ds s 0)) (2 * s + 1) (getD cs s 0)) (2 * (s + 1))
     more h =
         let (direction, control) = pairs-at ds cs s (p .alike) h in
         let twice : 2 * (s + 1) ≡ 2 * s + 1 + 1 = omega arith in
@@ -36,7 +36,7 @@ module _ {ds cs : List ℕ} (p : Pairable ds cs) where
         ap₂ (λ (ns : List ℕ) (m : ℕ). record { numbers = ns; count = m }) (fill-all f (omega (arith, size))) (sym (pairs-length ds cs (p .alike)))
 
 abbrev Inv-loop : tie.InvT-loop
-Inv-loop directions controls numbers₀ count s₀ numbers s = Filled (flat (pairs directions controls)) numbers (2 * s)
+Inv-loop directions controls numbers₀ count s₀ numbers s = Filled openWidth (flat (pairs directions controls)) numbers (2 * s)
 
 abbrev μ-loop : tie.MeasureT-loop
 μ-loop directions controls numbers₀ count s₀ numbers s = count - s

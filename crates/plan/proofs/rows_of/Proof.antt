@@ -7,25 +7,25 @@ use borrow.Author.Needs.{needs}
 use lib.ListN.{set, replicate}
 use Rattle.span.specs.Rows.{dots, rows as rowsIn}
 use Rattle.span.proofs.RowLaws.{rows-length, rows-at}
+use Rattle.sheet.proofs.FillLaws.{Filled, fill-none, fill-more, fill-all}
 use Rattle.maps.specs.Opened.{openWidth, padded}
 use Rattle.plan.specs.Inside.{Narrow}
-use Rattle.plan.proofs.FillLaws.{Filled, fill-none, fill-more, fill-all}
 use Rattle.plan.proofs.rows_of.Statement.{statement}
 use Rattle.plan.proofs.rows_of.Tie as tie
 
 module _ {columns : List ℕ} {count : ℕ} (narrow : Narrow columns count) where
-  start : Filled (rowsIn count columns) (replicate openWidth 0) 0
+  start : Filled openWidth (rowsIn count columns) (replicate openWidth 0) 0
   start = fill-none (omega (arith, rows-length count columns))
 
-  module _ {rows : List ℕ} {i : ℕ} (f : Filled (rowsIn count columns) rows i) where
-    more : {row : ℕ} → i < count → row ≡ dots columns (2 ^ i) → Filled (rowsIn count columns) (set rows i row) (i + 1)
+  module _ {rows : List ℕ} {i : ℕ} (f : Filled openWidth (rowsIn count columns) rows i) where
+    more : {row : ℕ} → i < count → row ≡ dots columns (2 ^ i) → Filled openWidth (rowsIn count columns) (set rows i row) (i + 1)
     more h e = fill-more f (omega (arith, rows-length count columns)) (e ∙ sym (rows-at count columns i h))
 
     done : count ≤ i → rows ≡ padded (rowsIn count columns)
     done end = fill-all f (omega (arith, rows-length count columns))
 
 abbrev Inv-loop : tie.InvT-loop
-Inv-loop columns count rows₀ i₀ rows i = Filled (rowsIn count columns) rows i
+Inv-loop columns count rows₀ i₀ rows i = Filled openWidth (rowsIn count columns) rows i
 
 abbrev μ-loop : tie.MeasureT-loop
 μ-loop columns count rows₀ i₀ rows i = count - i

@@ -6,12 +6,13 @@ use native.Mathlib.Omega.{arith}
 use borrow.Author.Needs.{needs}
 use lib.ListN.{length, length-map}
 use Rattle.kinds.specs.Frame.{tickOf}
-use Rattle.plan.proofs.FillLaws.{Filled, fill-none, fill-value, fill-all}
+use Rattle.sheet.proofs.FillLaws.{Filled, fill-none, fill-value, fill-all}
+use Rattle.maps.specs.Opened.{openWidth}
 use Rattle.plan.proofs.ticks_of.Statement.{statement}
 use Rattle.plan.proofs.ticks_of.Tie as tie
 
 abbrev Inv-loop : tie.InvT-loop
-Inv-loop places k ticks₀ j₀ ticks j = Filled (map (tickOf k) places) ticks j
+Inv-loop places k ticks₀ j₀ ticks j = Filled openWidth (map (tickOf k) places) ticks j
 
 abbrev μ-loop : tie.MeasureT-loop
 μ-loop places k ticks₀ j₀ ticks j = length places - j

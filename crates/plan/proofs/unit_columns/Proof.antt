@@ -10,8 +10,8 @@ use lib.Pow.{pow-lt, shl-shr}
 use Rattle.kinds.proofs.FrameLaws.{frame-whole}
 use Rattle.bits.specs.Image.{columns}
 use Rattle.bits.proofs.ImageLaws.{columns-length, columns-at}
+use Rattle.sheet.proofs.FillLaws.{Filled, fill-zeros, fill-more, fill-all}
 use Rattle.maps.specs.Opened.{openWidth, padded}
-use Rattle.plan.proofs.FillLaws.{Filled, fill-zeros, fill-more, fill-all}
 use Rattle.plan.proofs.unit_columns.Statement.{statement}
 use Rattle.plan.proofs.unit_columns.Tie as tie
 
@@ -20,7 +20,7 @@ shifted a x = x / 2 ^ a
 
 record Units (a b : ℕ) (numbers : List ℕ) (j : ℕ) : Type 0 where
   from : a ≤ j
-  filled : Filled (columns b (shifted a)) numbers j
+  filled : Filled openWidth (columns b (shifted a)) numbers j
 
 start : {a b : ℕ} → b ≤ openWidth → Units a b (replicate openWidth 0) a
 start {a} {b} room =

@@ -1,14 +1,16 @@
 -- `plan::write_sheet` meets its contract. Each side is laid out in its half of the sheet.
 use Prim.Native.Nat.{ℕ, _+_, _-_, _*_, _≤_}
-use mathlib.Core.Path.{_≡_, sym, ap, ap₂, _∙_}
+use mathlib.Core.Path.{_≡_, refl, sym, ap, ap₂, _∙_}
 use mathlib.Core.List.{List, _++_, append-nil}
 use native.Mathlib.Omega.{arith}
 use borrow.Author.Needs.{needs}
 use lib.ListN.{length, take, drop, length-take, length-append, length-drop, drop-of-length-le}
 use lib.Seq.{drop-append-seam}
-use Rattle.sheet.specs.Sheet.{flat}
-use Rattle.sheet.proofs.LayLaws.{padded-length, padded-part, flat-length}
-use Rattle.plan.specs.Planned.{readStages}
+use Rattle.kinds.specs.Edition.{edition1}
+use Rattle.sheet.specs.Sheet.{stagesFrom, flat, laidOut}
+use Rattle.sheet.proofs.LayLaws.{padded-length, padded-part, flat-length, flat-from, same-side}
+use Rattle.maps.specs.Opened.{openWidth}
+use Rattle.plan.specs.Planned.{readStages, plannedRead}
 use Rattle.plan.specs.Inside.{Ordered}
 use Rattle.plan.proofs.ChoiceLaws.{read-count}
 use Rattle.plan.proofs.write_sheet.Statement.{statement}
@@ -48,14 +50,14 @@ module _ (c : tie.After-read-stages) where
   count : c .read-stages .result .count ≡ length (readStages n k C)
   count = ap (λ r. r .count) (c .read-stages .ensures)
 
-  wide : length (c .read-stages .result .numbers) ≡ 16
-  wide = ap (λ r. length (r .numbers)) (c .read-stages .ensures) ∙ padded-length 16 (flat (readStages n k C)) (omega (arith, few, flat-length (readStages n k C)))
+  wide : length (c .read-stages .result .numbers) ≡ openWidth
+  wide = ap (λ r. length (r .numbers)) (c .read-stages .ensures) ∙ padded-length openWidth (flat (readStages n k C)) (omega (arith, few, flat-length (readStages n k C)))
 
   numbers : take (2 * c .read-stages .result .count - 0) (c .read-stages .result .numbers) ≡ flat (readStages n k C)
   numbers =
       let ss = readStages n k C in
       let all : 2 * c .read-stages .result .count ≡ length (flat ss) = omega (arith, count, flat-length ss) in
-      ap (λ r. take (2 * c .read-stages .result .count - 0) (r .numbers)) (c .read-stages .ensures) ∙ padded-part 16 (flat ss) (2 * c .read-stages .result .count) all
+      ap (λ r. take (2 * c .read-stages .result .count - 0) (r .numbers)) (c .read-stages .ensures) ∙ padded-part openWidth (flat ss) (2 * c .read-stages .result .count) all
 
 read-stages-requires : tie.Need-read-stages-requires
 read-stages-requires c κs = c .before .before .pre .ordered
@@ -86,8 +88,8 @@ lay-read-side-requires c κs =
     let r = c .before .before .before .before .before in
     record {
       sized = sound r .sized;
-      whole = (readStages (n r) (k r) (C r), numbers r);
-      stages = omega (arith, ap length (numbers r), flat-length (readStages (n r) (k r) (C r)), few r);
+      even = rw (numbers r) (omega (arith, flat-length (readStages (n r) (k r) (C r))));
+      stages = rw (numbers r) (omega (arith, flat-length (readStages (n r) (k r) (C r)), few r));
       side = simp (length-take, length-drop) (omega (arith, start r .pre .places));
     }
 
@@ -111,8 +113,11 @@ same-length c = search needs
 returns : tie.Need-returns
 returns c =
     let r = c .before .before .before .before .before .before .before .before .before .before .before .before in
-    let read = c .before .before .before .before .before .before .lay-read-side .ensures (readStages (n r) (k r) (C r)) (numbers r) in
-    ap₂ (λ (w l : List ℕ). w ++ l) (c .before .before .lay-write-side .ensures) (last-places 32 (start r .args .sheet .now) _ (start r .pre .places) ∙ read)
+    let R = plannedRead (n r) (k r) (C r) in
+    ap₂ (λ (w l : List ℕ). w ++ l) (c .before .before .lay-write-side .ensures)
+    (last-places 32 (start r .args .sheet .now) _ (start r .pre .places)
+    ∙ c .before .before .before .before .before .before .lay-read-side .ensures
+    ∙ ap (laidOut edition1) (same-side {a = R .addresses} {b = R .wiring} refl refl (ap stagesFrom (numbers r) ∙ flat-from (R .stages))))
 
 pub write-sheet-spec : {M : Type 1} → statement M
 write-sheet-spec =

@@ -1,12 +1,12 @@
 -- `maps::OpenSide::column` meets its contract. A column of a port bit has the wiring's bank, one of a tick bit the stages'.
-use Prim.Native.Nat.{ℕ, _+_, _-_, _*_, _%_, _/_, _^_, _≤_, _<_}
+use Prim.Native.Nat.{ℕ, _+_, _-_, _*_, _%_, _^_, _≤_, _<_}
 use mathlib.Core.Path.{_≡_, sym, ap, ap₂, _∙_}
 use mathlib.Core.List.{List}
 use native.Mathlib.Omega.{arith}
 use borrow.Author.Needs.{needs}
-use lib.ListN.{length, getD}
+use lib.ListN.{getD}
 use Rattle.kinds.specs.Frame.{tickOf, portOf}
-use Rattle.sheet.specs.Sheet.{Side, stagesIn}
+use Rattle.sheet.specs.Sheet.{Side, stagesFrom}
 use Rattle.maps.specs.Cells.{afterStages, cellOf}
 use Rattle.maps.specs.Opened.{openWidth, Shows}
 use Rattle.maps.specs.Inside.{IsColumn}
@@ -35,7 +35,7 @@ module _ (o : OpenSide) (j : ℕ) where
   port low e n k S h small =
       made (getD (S .wiring) j 0) h small e (shown (o .wiring) (S .wiring) (shown-wiring h) small) (port-column k S j (omega (arith, shown-k h)))
 
-  tick : {t b r : ℕ} → o .k ≤ at → t ≡ 2 ^ (at - o .k) → b ≡ afterStages (stagesIn (length (o .stages) / 2) (o .stages)) t 0
+  tick : {t b r : ℕ} → o .k ≤ at → t ≡ 2 ^ (at - o .k) → b ≡ afterStages (stagesFrom (o .stages)) t 0
       → r ≡ (getD (o .addresses) at 0 * 2 ^ o .k + b) % 2 ^ openWidth → IsColumn o j r
   tick {t} high t-is bank e n k S h small =
       made (afterStages (S .stages) (2 ^ (j - k)) 0) h small e

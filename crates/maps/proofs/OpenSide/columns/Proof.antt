@@ -1,56 +1,51 @@
--- `maps::OpenSide::columns` meets its contract. The invariant: for whichever side is shown, the first j columns are those of its map.
+-- `maps::OpenSide::columns` meets its contract. The invariant: for whichever side is shown, the first j columns are those of its map, and zeros beyond its last.
 use Prim.Native.Nat.{ℕ, _+_, _-_, _^_, _≤_, _<_}
 use mathlib.Core.Path.{_≡_, sym, _∙_}
 use mathlib.Core.List.{List}
 use native.Mathlib.Decide.{decLt}
 use native.Mathlib.Omega.{arith}
-use borrow.Author.Count.{below-none, below-more}
 use borrow.Author.Needs.{needs}
-use lib.ListN.{length, getD, set, replicate, length-set, length-replicate, List·getD-eq-default}
-use lib.Seq.{getD-set-same, getD-set-other}
+use lib.ListN.{length, getD, set, replicate, List·getD-eq-default}
 use Rattle.bits.proofs.ImageLaws.{columns-length, columns-at}
 use Rattle.sheet.specs.Sheet.{Side}
-use Rattle.sheet.proofs.LayLaws.{padded-unique}
+use Rattle.sheet.proofs.LayLaws.{padded-length, padded-at}
+use Rattle.sheet.proofs.FillLaws.{Filled, fill-none, fill-more, fill-whole}
 use Rattle.maps.specs.Cells.{cellOf, cellColumns}
-use Rattle.maps.specs.Opened.{openWidth, Shows, AreColumns}
+use Rattle.maps.specs.Opened.{openWidth, padded, Shows, AreColumns}
 use Rattle.maps.specs.Inside.{IsColumn}
 use Rattle.maps.specs.declared.OpenSide.{OpenSide}
 use Rattle.maps.proofs.CellLaws.{column-beyond}
 use Rattle.maps.proofs.OpenSide.columns.Statement.{statement}
 use Rattle.maps.proofs.OpenSide.columns.Tie as tie
 
+module _ {n k : ℕ} {o : OpenSide} {S : Side} (h : Shows n k o S) where
+  abbrev C : List ℕ
+  C = cellColumns n k S
+
+  count : length C ≡ n
+  count = columns-length n (cellOf k S)
+
+  places : length (padded C) ≡ openWidth
+  places = padded-length openWidth C (omega (arith, count, h .words))
+
+  shown : (j : ℕ) → cellOf k S (2 ^ j) ≡ getD (padded C) j 0
+  shown j = elim (decLt j n) [
+    | yes b ↦ sym (padded-at openWidth C j ∙ columns-at n (cellOf k S) j b)
+    | no b ↦ column-beyond (h .used) (h .ports) (h .addresses) j (omega arith) ∙ sym (padded-at openWidth C j ∙ List·getD-eq-default C 0 (omega (arith, count)))
+  ]
+
 record Filling (o : OpenSide) (r : List ℕ) (j : ℕ) : Type 0 where
-  whole : length r ≡ openWidth
-  each : (n k : ℕ) (S : Side) → Shows n k o S → (l : ℕ) → l < j → getD r l 0 ≡ cellOf k S (2 ^ l)
+  each : (n k : ℕ) (S : Side) → Shows n k o S → Filled openWidth (padded (cellColumns n k S)) r j
 
 start : {o : OpenSide} → Filling o (replicate openWidth 0) 0
-start = record { whole = length-replicate {A = ℕ} openWidth 0; each = λ n k S h. below-none _ }
+start = record { each = λ n k S h. fill-none (omega (arith, places h)) }
 
 module _ {o : OpenSide} {r : List ℕ} {j : ℕ} (i : Filling o r j) where
   more : {v : ℕ} → j < openWidth → IsColumn o j v → Filling o (set r j v) (j + 1)
-  more {v} small column = record {
-    whole = length-set r j v ∙ i .whole;
-    each = λ n k S h.
-        below-more _ j (λ l m. getD-set-other r j l v 0 (λ e. omega arith) ∙ i .each n k S h l m)
-        (getD-set-same r j v 0 (omega arith) ∙ column n k S h small);
-  }
+  more small column = record { each = λ n k S h. fill-more (i .each n k S h) (omega (arith, places h)) (column n k S h small ∙ shown h j) }
 
   done : openWidth ≤ j → AreColumns o r
-  done end n k S h = padded-unique openWidth C r (omega (arith, count, h .words)) (i .whole) (λ l. place l (decLt l n) (decLt l openWidth))
-    where
-      C : List ℕ
-      C = cellColumns n k S
-
-      count : length C ≡ n
-      count = columns-length n (cellOf k S)
-
-      beyond : (l : ℕ) → n ≤ l → getD C l 0 ≡ 0
-      beyond l b = List·getD-eq-default C 0 (omega (arith, count))
-
-      place : (l : ℕ) → Dec (l < n) → Dec (l < openWidth) → getD r l 0 ≡ getD C l 0
-      place l (yes b) d = i .each n k S h l (omega (arith, h .words)) ∙ sym (columns-at n (cellOf k S) l b)
-      place l (no b) (yes d) = i .each n k S h l (omega arith) ∙ column-beyond (h .used) (h .ports) (h .addresses) l (omega arith) ∙ sym (beyond l (omega arith))
-      place l (no b) (no d) = List·getD-eq-default r 0 (omega (arith, i .whole)) ∙ sym (beyond l (omega arith))
+  done end n k S h = fill-whole (i .each n k S h) (places h) end
 
 abbrev Inv-loop : tie.InvT-loop
 Inv-loop self columns₀ j₀ columns j = Filling self columns j

@@ -2,6 +2,7 @@
 --   dots-P1, dots-P3    what the rows of P1 and of P3 make of a port is what P1 and P3 do
 --   parts-vanish        only port 0 is sent to port 0 and tick 0
 --   rows-rank           so only port 0 vanishes on all these rows, and their rank is k
+--   P1-count, P3-count  how many rows each has
 --   rows-together       the rows of the first k columns are the rows of P1 and then those of P3
 use Prim.Native.Nat.{ℕ, _+_, _-_, _^_, _<_, _≤_}
 use mathlib.Core.Path.{_≡_, sym, ap, _∙_}
@@ -47,18 +48,18 @@ module _ {n : ℕ} (k : ℕ) {C : List ℕ} (within : k ≤ n) (o : Order n C) w
       (below-append (2 ^ k) (rowsP1 k C) (rowsP3 n k C) (rowsOf-below k k (P1 k C)) (rowsOf-below (tickBits n k) k (P3 k C)))
       rows-vanish
 
+pub P1-count : (k : ℕ) (C : List ℕ) → length (rowsP1 k C) ≡ k
+P1-count k C = rowsOf-length k k (P1 k C)
+
+pub P3-count : (n k : ℕ) (C : List ℕ) → length (rowsP3 n k C) ≡ tickBits n k
+P3-count n k C = rowsOf-length (tickBits n k) k (P3 k C)
+
 module _ (n k : ℕ) (C : List ℕ) (within : k ≤ n) (count : length C ≡ n) where
   abbrev R : List ℕ
   R = rowsP1 k C
 
   abbrev S : List ℕ
   S = rowsP3 n k C
-
-  first : length R ≡ k
-  first = rowsOf-length k k (P1 k C)
-
-  second : length S ≡ tickBits n k
-  second = rowsOf-length (tickBits n k) k (P3 k C)
 
   few : length (take k C) ≡ k
   few = omega (arith, length-take k C, count)
@@ -80,15 +81,15 @@ module _ (n k : ℕ) (C : List ℕ) (within : k ≤ n) (count : length C ≡ n) 
 
   same-row : (i : ℕ) → i < n → getD (rows n (take k C)) i 0 ≡ getD (R ++ S) i 0
   same-row i h = elim (decLt i k) [
-    | yes l ↦ same-as k i i (P1 k C) l h (λ p. bit-low i k (place C (wordAt k 0 p)) l) ∙ sym (List·getD-append R S 0 i (rw first l))
+    | yes l ↦ same-as k i i (P1 k C) l h (λ p. bit-low i k (place C (wordAt k 0 p)) l) ∙ sym (List·getD-append R S 0 i (rw (P1-count k C) l))
     | no l ↦
         let r : ℕ = i - k in
         let here : k + r ≡ i = omega arith in
         same-as (tickBits n k) r i (P3 k C) (omega arith) h (λ p. rw here at (bit-high r k (place C (wordAt k 0 p))))
-        ∙ sym (ap (λ (x : ℕ). getD (R ++ S) x 0) (let e : i ≡ length R + r = omega (arith, first) in e) ∙ getD-append-add R S r 0)
+        ∙ sym (ap (λ (x : ℕ). getD (R ++ S) x 0) (let e : i ≡ length R + r = omega (arith, P1-count k C) in e) ∙ getD-append-add R S r 0)
   ]
 
   pub rows-together : rows n (take k C) ≡ R ++ S
   rows-together =
-      ext-getD 0 (rows n (take k C)) (R ++ S) (rows-length n (take k C) ∙ sym (length-append R S ∙ omega (arith, first, second)))
+      ext-getD 0 (rows n (take k C)) (R ++ S) (rows-length n (take k C) ∙ sym (length-append R S ∙ omega (arith, P1-count k C, P3-count n k C)))
       (λ i h. same-row i (rw rows-length at h))

@@ -23,7 +23,8 @@ use Rattle.span.proofs.ScanLaws.{kept-those, IsKept-prefix}
 use Rattle.span.proofs.MaskLaws.{mask-says}
 use Rattle.span.proofs.TakenLaws.{taken-kept}
 use Rattle.order.specs.Parts.{P1, P3, rowsP1, rowsP3}
-use Rattle.order.proofs.PartLaws.{rowsOf-length, rowsOf-below}
+use Rattle.order.proofs.PartLaws.{rowsOf-below}
+use Rattle.order.proofs.RowLaws.{P1-count, P3-count}
 use Rattle.plan.specs.Planned.{othersOfP1, portsToZero, keptOfP3}
 use Rattle.plan.specs.Inside.{keptIn, listed}
 use Rattle.plan.proofs.ChoiceLaws.{zero-ports}
@@ -41,20 +42,14 @@ module _ (n k : ℕ) (C : List ℕ) (within : k ≤ n) where
   abbrev S : List ℕ
   S = rowsP3 n k C
 
-  first : length R ≡ k
-  first = rowsOf-length k k (P1 k C)
-
-  second : length S ≡ tickBits n k
-  second = rowsOf-length (tickBits n k) k (P3 k C)
-
   module _ (ms : List ℕ) (masked : (i : ℕ) → i < n → getD ms i 0 ≡ mask (R ++ S) i) where
     pub others-listed : listed ms 0 k false ≡ othersOfP1 k C
     unfolding listed othersOfP1 others
     others-listed =
-        ap (those (λ j. Bool-discrete (keptIn ms (0 + j)) false)) {x = k - 0} {y = length R} (omega (arith, first))
+        ap (those (λ j. Bool-discrete (keptIn ms (0 + j)) false)) {x = k - 0} {y = length R} (omega (arith, P1-count k C))
         ∙ those-same (λ j. Bool-discrete (keptIn ms (0 + j)) false) (sumBefore? R) (length R)
         (λ j h.
-        let kept = told (R ++ S) ms j (masked j (omega (arith, first))) in
+        let kept = told (R ++ S) ms j (masked j (omega (arith, P1-count k C))) in
         let prefix = IsKept-prefix R S j h in
         rw (zero-add j) (
           λ e. stable (sumBefore? R j) (λ own. denied kept e (prefix .1 own)),
@@ -70,7 +65,7 @@ module _ (n k : ℕ) (C : List ℕ) (within : k ≤ n) where
         those-same (λ j. Bool-discrete (keptIn ms (k + j)) true) (λ j. opposite (sumBefore? T j)) (n - k)
         (λ j h.
         let kept = told (R ++ S) ms (k + j) (masked (k + j) (omega arith)) in
-        let taken : IsKept (R ++ S) (k + j) ↔ IsKept T j = rw first at (at j (rw second h)) in
+        let taken : IsKept (R ++ S) (k + j) ↔ IsKept T j = rw (P1-count k C) at (at j (rw (P3-count n k C) h)) in
         (λ e. taken .0 (kept .0 e), λ own. kept .1 (taken .1 own)))
         ∙ sym (kept-those T (n - k))
-        ∙ ap (keptAt T) (sym (length-map S (dots (portsToZero k C)) ∙ second))
+        ∙ ap (keptAt T) (sym (length-map S (dots (portsToZero k C)) ∙ P3-count n k C))

@@ -1,6 +1,7 @@
 -- Answers, and what they leave.
 --   not-both          no answer is done and a refusal
 --   said-same         answers that say the same are the same
+--   said-before       a refusal that is a table's is that of any longer table
 --   some-lengths      either bool says of some lengths whether they are right
 --   checks-unique     a check has one right answer
 --   refused-by        how a refusal meets `Answers`: it is the table's, and everything is as it came
@@ -11,7 +12,7 @@
 --   answers-agree     so two tools with one table were both done, or were both refused
 use mathlib.Core.Path.{_≡_, refl, sym, ap, _∙_}
 use mathlib.Core.Bool.{Bool, true, false}
-use mathlib.Core.List.{List, [], _∷_}
+use mathlib.Core.List.{List, [], _∷_, _++_}
 use mathlib.Core.Option.{Option, none, some}
 use Prim.Native.Nat.{ℕ}
 use native.Mathlib.Omega.{arith}
@@ -23,7 +24,7 @@ use Rattle.kinds.specs.declared.Answer.{Answer}
 use Rattle.kinds.specs.declared.Answer.the-variants.{Done, Refused}
 use Rattle.kinds.specs.declared.Refusal.{Refusal}
 use Rattle.kinds.proofs.TruthLaws.{says-no, says-yes}
-use Rattle.kinds.proofs.LowestLaws.{none-some}
+use Rattle.kinds.proofs.LowestLaws.{none-some, lowest-before}
 
 pub not-both : {A : Type 0} {r : Answer} {x : Refusal} → r ≡ Done → r ≡ Refused x → A
 not-both d e = absurd (let z : _≡_ {A = ℕ} 0 1 = cc in omega arith)
@@ -33,6 +34,10 @@ said-same Done Done e = refl
 said-same Done (Refused y) e = none-some e
 said-same (Refused x) Done e = none-some (sym e)
 said-same (Refused x) (Refused y) e = cc
+
+pub said-before : (s t : List Reason) (r : Answer) → ¬ (r ≡ Done) → said r ≡ lowest s → said r ≡ lowest (s ++ t)
+said-before s t Done refuses e = absurd (refuses refl)
+said-before s t (Refused x) refuses e = sym (lowest-before s t (sym e))
 
 pub some-lengths : (fits : Bool) → (others : List (ℕ × ℕ)) × Says fits (RightLengths others)
 some-lengths true = ([], says-yes tt)

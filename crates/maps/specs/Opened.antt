@@ -8,6 +8,7 @@
 --   IsAddress o c p r            r is the address of the word at tick c, port p, on whichever side o shows
 --   IsBank o c p r               r is its bank
 --   IsCell o c p r               r is its cell
+--   IsWiring o r                 r is the wiring columns of that side, and zeros after them
 --   AreColumns o r               r is the columns of that side's map, and zeros after them
 --   ListsCells o c out out' r    all cells of one tick into a lent buffer, which has 2^k places or is refused: done, out' is these, by port; refused, out as it came
 use Prim.Native.Nat.{ℕ, _^_, _≤_}
@@ -68,6 +69,9 @@ IsBank o c p r = (n k : ℕ) (S : Side) → Shows n k o S → r ≡ bankAt S c p
 
 abbrev pub IsCell : OpenSide → ℕ → ℕ → ℕ → Type 0
 IsCell o c p r = (n k : ℕ) (S : Side) → Shows n k o S → r ≡ cellAt k S c p
+
+abbrev pub IsWiring : OpenSide → List ℕ → Type 0
+IsWiring o r = (n k : ℕ) (S : Side) → Shows n k o S → r ≡ padded (S .wiring)
 
 abbrev pub AreColumns : OpenSide → List ℕ → Type 0
 AreColumns o r = (n k : ℕ) (S : Side) → Shows n k o S → r ≡ padded (cellColumns n k S)

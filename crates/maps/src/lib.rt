@@ -6,7 +6,7 @@ ghost use Rattle.kinds.specs.Edition.{edition1, sidePlaces};
 ghost use Rattle.kinds.specs.Frame.{wordAt};
 ghost use Rattle.sheet.specs.Sheet.{stagesFrom};
 ghost use Rattle.maps.specs.Cells.{afterStages};
-ghost use Rattle.maps.specs.Opened.{openWidth, padded as paddedOf, Opens, IsAddress, IsBank, IsCell, AreColumns, ListsCells};
+ghost use Rattle.maps.specs.Opened.{openWidth, padded as paddedOf, Opens, IsAddress, IsBank, IsCell, IsWiring, AreColumns, ListsCells};
 ghost use Rattle.maps.specs.Inside.{OpensSide, IsColumn, Doubled};
 use kinds::Addr;
 use kinds::Answer;
@@ -123,6 +123,13 @@ impl OpenSide {
         let address = self.address(tick, port);
         let bank = self.bank(tick, port);
         cell_number(address, bank, self.k)
+    }
+
+    // The wiring columns, and zeros after them.
+    pub fn wiring(self) -> [u16; WIDTH]
+        ensures { λ r. ⌜ IsWiring self r ⌝ }
+    {
+        self.wiring
     }
 
     // The columns of the side's map, and zeros after them.

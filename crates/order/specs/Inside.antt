@@ -1,6 +1,5 @@
 -- What the functions inside the crate promise one another.
 --   Few C                      a scan has room for the columns C
---   Scans C r                  r says whether C is independent; if so, its scan holds C
 --   ChecksColumns n C fits r   r is the lowest of 2 to 4 that applies, fits as in `Checks`; if none does, the scan holds C
 --   ChecksAndScans n C fits r  the same of 1 to 4, for a tool that takes no k
 --   UndoesHeld scan m m'       whatever order the scan holds, of as many columns as m has, m' undoes it
@@ -8,27 +7,21 @@
 --   Frames n C f g             an order, and two frames
 use Prim.Native.Nat.{ℕ, _+_, _-_, _^_, _<_, _≤_}
 use mathlib.Core.Path.{_≡_}
-use mathlib.Core.Bool.{Bool, true}
+use mathlib.Core.Bool.{Bool}
 use mathlib.Core.List.{List}
 use lib.ListN.{length, getD}
 use Rattle.kinds.specs.Edition.{edition1, sizedN?}
-use Rattle.kinds.specs.Answers.{Says, Checks}
+use Rattle.kinds.specs.Answers.{Checks}
 use Rattle.kinds.specs.declared.Answer.the-variants.{Done}
-use Rattle.span.specs.Sums.{Independent}
 use Rattle.span.specs.Held.{Holds}
 use Rattle.span.specs.Take.{room}
 use Rattle.span.specs.declared.Scan.{Scan}
 use Rattle.order.specs.Order.{place, Order, Undoes}
 use Rattle.order.specs.Table.{columnTable, orderTable}
-use Rattle.order.specs.declared.Scanned.{Scanned}
 use Rattle.order.specs.declared.Checked.{Checked}
 
 abbrev pub Few : List ℕ → Type 0
 Few C = length C ≤ room
-
-pub record Scans (C : List ℕ) (r : Scanned) : Type 0 where
-  pub says : Says (r .independent) (Independent C)
-  pub holds : r .independent ≡ true → Holds (r .scan) C
 
 pub record ChecksColumns (n : ℕ) (C : List ℕ) (fits : Bool) (r : Checked) : Type 0 where
   pub answer : Checks (columnTable n C) fits (r .answer)

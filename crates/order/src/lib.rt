@@ -1,16 +1,15 @@
 // Orders: the check that every tool makes of one, the inverse, and the mover.
 ghost use mathlib.Core.Path.{_≡_};
 ghost use mathlib.Core.List.{[], _∷_};
-ghost use Prim.Native.Nat.{_^_, _≤_};
+ghost use Prim.Native.Nat.{_^_};
 ghost use lib.ListN.{length};
 ghost use Rattle.kinds.specs.Answers.{Says, Checks};
 ghost use Rattle.kinds.specs.Edition.{edition1, sizedN?, sized?};
 ghost use Rattle.kinds.specs.Reasons.{RightLengths};
-ghost use Rattle.span.specs.Take.{room};
 ghost use Rattle.order.specs.Order.{Moved};
 ghost use Rattle.order.specs.Table.{orderTable};
 ghost use Rattle.order.specs.Tools.{Inverts, Moves};
-ghost use Rattle.order.specs.Inside.{Few, Scans, ChecksColumns, ChecksAndScans, UndoesHeld, Steps, Frames};
+ghost use Rattle.order.specs.Inside.{Few, ChecksColumns, ChecksAndScans, UndoesHeld, Steps, Frames};
 use kinds::Answer;
 use kinds::Refusal;
 use span::Scan;
@@ -51,7 +50,6 @@ fn check_and_scan(n: u32, columns: &[u16], fits: bool) -> Checked
 
 // 2 to 4, with the scan of the columns where none applies.
 fn check_columns(n: u32, columns: &[u16], fits: bool) -> Checked
-    requires { ⌜ n ≤ room ⌝ }
     ensures { λ r. ⌜ ChecksColumns n (now (columns .entry)) fits r ⌝ }
 {
     if !fits {
@@ -61,7 +59,7 @@ fn check_columns(n: u32, columns: &[u16], fits: bool) -> Checked
         return refused(Refusal::Length);
     }
     let small = bits::within_bits(columns, n);
-    let scanned = scan_columns(columns);
+    let scanned = span::scan_all(columns);
     let independent = scanned.independent;
     if !small {
         return refused(Refusal::TooLarge);
@@ -82,35 +80,6 @@ fn refused(refusal: Refusal) -> Checked
     Checked {
         answer: Answer::Refused(refusal),
         scan: Scan::new(),
-    }
-}
-
-struct Scanned {
-    scan: Scan,
-    independent: bool,
-}
-
-// Scans up to the first column that is a sum of those before it.
-fn scan_columns(columns: &[u16]) -> Scanned
-    requires { ⌜ Few (now columns) ⌝ }
-    ensures { λ r. ⌜ Scans (now (columns .entry)) r ⌝ }
-{
-    let mut scan = Scan::new();
-    let mut j = 0;
-    while j < columns.len() {
-        let taken = scan.take(columns[j]);
-        if !taken.kept {
-            return Scanned {
-                scan,
-                independent: false,
-            };
-        }
-        scan = taken.scan;
-        j += 1;
-    }
-    Scanned {
-        scan,
-        independent: true,
     }
 }
 

@@ -29,7 +29,7 @@ use Rattle.order.proofs.PartLaws.{P1-into}
 use Rattle.order.proofs.OrderLaws.{order-bijection}
 use Rattle.sheet.specs.Sheet.{Side, writeSide, readSide}
 use Rattle.sheet.specs.Layout.{WellFormed, Layable}
-use Rattle.sheet.proofs.LayLaws.{sheet-write, sheet-read, sheet-formed}
+use Rattle.sheet.proofs.LayLaws.{sheet-length, sheet-write, sheet-read, sheet-formed}
 use Rattle.maps.specs.Cells.{bankAt, cellAt, cellOf, M, N}
 use Rattle.maps.specs.Stages.{selected}
 use Rattle.maps.proofs.CellLaws.{stages-sum, bank-lt, cell-word, cell-into, cell-linear}
@@ -156,6 +156,7 @@ module _ {e : Edition} {n k : ℕ} {C : List ℕ} (sized : Sized e n k) (order :
   pub planned : IsPlanned e n k C sheet
   planned = record {
     constructed = refl;
+    places = sheet-length e n k sized (plannedWrite n k C) (plannedRead n k C) write-layable read-laid;
     formed = planned-formed;
     right = passes-right within order planned-formed planned-passes;
     stages = sheet-count;

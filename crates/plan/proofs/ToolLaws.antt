@@ -12,7 +12,8 @@ use Rattle.kinds.specs.declared.Answer.the-variants.{Done}
 use Rattle.kinds.proofs.AnswerLaws.{said-same, answers-done, answers-same, answers-agree}
 use Rattle.order.specs.Order.{Order}
 use Rattle.order.proofs.TableLaws.{order-sound}
-use Rattle.plan.specs.Tool.{planLengths, IsPlanned, Plans}
+use Rattle.sheet.specs.Table.{sheetLengths}
+use Rattle.plan.specs.Tool.{IsPlanned, Plans}
 
 module _ (e : Edition) (n k : ℕ) (C s : List ℕ) where
   pub plans-unique : (a b : List ℕ) (r q : Answer) → Plans e n k C s a r → Plans e n k C s b q → (r ≡ q) × (a ≡ b)
@@ -23,5 +24,5 @@ module _ (e : Edition) (n k : ℕ) (C s : List ℕ) where
 
   pub plans-done : Sized e n k → Order n C → length s ≡ sheetPlaces e → (a : List ℕ) (r : Answer) → Plans e n k C s a r → (r ≡ Done) × IsPlanned e n k C a
   plans-done sized order places a r p =
-      let done : r ≡ Done = answers-done (order-sound (sized? e n k) n C (planLengths e s) .1 (sized, (places, tt), order)) p in
+      let done : r ≡ Done = answers-done (order-sound (sized? e n k) n C (sheetLengths e s) .1 (sized, (places, tt), order)) p in
       (done, p .done (ap said done))

@@ -4,13 +4,15 @@
 --   tool-runs           with a sheet that keeps the layout and a series of calls, the tool's run from fresh is the sheet's: 1, 2, 5 and 10 are never given
 --   tool-outcome        and so is what comes of each call
 --   tool-right          so where the sheet is right for an order, what the tool answers is
+--   tool-exact          and only there: the sheet is right exactly when the run as a tool is
 use Prim.Native.Nat.{ℕ, zero, suc, _+_, _^_, _<_, _≤_}
-use mathlib.Core.Path.{_≡_, refl, ap, _∙_}
+use mathlib.Core.Path.{_≡_, refl, sym, ap, _∙_}
 use mathlib.Core.Bool.{cond}
 use mathlib.Core.List.{List}
+use mathlib.Core.Logic.{_↔_}
 use mathlib.Core.Option.{Option, none, some}
 use native.Mathlib.Omega.{arith}
-use lib.ListN.{length}
+use lib.ListN.{length, replicate, length-replicate}
 use Rattle.kinds.specs.Edition.{Edition, Sized, sheetPlaces}
 use Rattle.kinds.specs.Frame.{ticks}
 use Rattle.kinds.specs.Lowest.{Reason, lowest}
@@ -27,7 +29,7 @@ use Rattle.run.specs.declared.State.{State}
 use Rattle.run.proofs.MemoryLaws.{put-length}
 use Rattle.run.proofs.CountLaws.{zero-marks}
 use Rattle.run.proofs.CallLaws.{call-refused, call-done, call-past, call-leaving, sheet-call-possible, sheet-call-filled}
-use Rattle.promise.specs.Series.{callAt, Series, Stand, Fresh, ifSuccessful, standing, outcomeOf, wordsTaken, wordsHanded, called, ticked, standingOn, outcomeOn, RightOver, Right}
+use Rattle.promise.specs.Series.{callAt, Series, Stand, Fresh, ifSuccessful, standing, outcomeOf, wordsTaken, wordsHanded, called, ticked, standingOn, outcomeOn, RightOver, Right, RightAsTool}
 use Rattle.promise.proofs.SeriesLaws.{call-count}
 use Rattle.promise.proofs.CountedLaws.{fresh-possible}
 
@@ -134,3 +136,17 @@ module _ (e : Edition) (n k : ℕ) (s : List ℕ) (S : List (List ℕ)) (out : �
 
     pub tool-right : {C : List ℕ} → Right e n k C s → RightOver n k (λ F. place C) (outcomeOf tool x) S
     tool-right right = over-same tool-outcome (right .over x S fresh series)
+
+abbrev buffers : ℕ → ℕ → List ℕ
+buffers k j = replicate (2 ^ k) 0
+
+module _ {e : Edition} {n k : ℕ} {C s : List ℕ} (sized : Sized e n k) (whole : length s ≡ sheetPlaces e) (formed : WellFormed e n k s) where
+  pub tool-exact : Right e n k C s ↔ RightAsTool e n k C s
+  tool-exact = (
+    λ right. record { over = λ x S out fresh series room. tool-right e n k s S out x sized whole formed room fresh series right },
+    λ right. record {
+      over = λ x S fresh series.
+          over-same (λ j h. sym (tool-outcome e n k s S (buffers k) x sized whole formed (λ i l. length-replicate (2 ^ k) 0) fresh series j h))
+          (right .over x S (buffers k) fresh series (λ i l. length-replicate (2 ^ k) 0));
+    },
+  )

@@ -33,6 +33,7 @@
 --   RightOver n k P o S      where o j is what comes of call j of the series S: no call is a fault, and each word of a completed frame leaves when and where it is due, if the series reaches that
 --                            call. P F is the order of frame F
 --   Right e n k C s          the sheet s is right for the order C: from fresh, over every series, and every content of the words that come and of the memory
+--   RightAsTool e n k C s    the same of the run as a tool, whatever out buffers of 2^k places are lent
 use Prim.Native.Nat.{ℕ, zero, suc, _+_, _-_, _*_, _/_, _^_, _<_, _≤_}
 use mathlib.Core.Path.{_≡_}
 use mathlib.Core.Bool.{true}
@@ -168,3 +169,7 @@ pub record RightOver (n k : ℕ) (P : ℕ → ℕ → ℕ) (o : ℕ → Outcome)
 
 pub record Right (e : Edition) (n k : ℕ) (C s : List ℕ) : Type 0 where
   pub over : (x : Stand) (S : List (List ℕ)) → Fresh n k x → Series k S → RightOver n k (λ F. place C) (outcomeOn e n k s x S) S
+
+pub record RightAsTool (e : Edition) (n k : ℕ) (C s : List ℕ) : Type 0 where
+  pub over : (x : Stand) (S : List (List ℕ)) (out : ℕ → List ℕ) → Fresh n k x → Series k S → ((j : ℕ) → j < length S → length (out j) ≡ 2 ^ k)
+      → RightOver n k (λ F. place C) (outcomeOf (ticked e n k s S out) x) S

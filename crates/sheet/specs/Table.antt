@@ -1,8 +1,9 @@
 -- When a sheet is refused (01, 'When a tool says no').
 --   brokenLayout e n k s        5: the sheet breaks the layout
+--   sheetLengths e s            the length of a lent sheet, and what it should be: "sheet 64"
 --   sheetTable e n k s others   1, 2 and 5, where the lengths lent beside the sheet, and what they should be, are others
 use Prim.Native.Nat.{ℕ}
-use mathlib.Core.List.{List, [], _∷_}
+use mathlib.Core.List.{List, [], _∷_, _++_}
 use lib.ListN.{length}
 use Rattle.kinds.specs.Edition.{Edition, sheetPlaces, sized?}
 use Rattle.kinds.specs.Lowest.{Reason, unless}
@@ -13,5 +14,8 @@ use Rattle.sheet.specs.Layout.{wellFormed?}
 abbrev pub brokenLayout : Edition → ℕ → ℕ → List ℕ → Reason
 brokenLayout e n k s = unless Layout (wellFormed? e n k s)
 
+abbrev pub sheetLengths : Edition → List ℕ → List (ℕ × ℕ)
+sheetLengths e s = (length s, sheetPlaces e) ∷ []
+
 abbrev pub sheetTable : Edition → ℕ → ℕ → List ℕ → List (ℕ × ℕ) → List Reason
-sheetTable e n k s others = outside (sized? e n k) ∷ wrongLength ((length s, sheetPlaces e) ∷ others) ∷ brokenLayout e n k s ∷ []
+sheetTable e n k s others = outside (sized? e n k) ∷ wrongLength (sheetLengths e s ++ others) ∷ brokenLayout e n k s ∷ []

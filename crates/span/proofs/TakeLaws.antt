@@ -1,16 +1,20 @@
--- What a caller of `take` or `mask_of` reads off its promise.
+-- What a caller of `take`, `mask_of` or `scan_all` reads off its promise.
 --   next-unique, asks-unique    two right answers say the same
 --   TakenAt, take-at    the numbers of a list taken in order: what the answer says of number j of the list
 --   asked          the mask of a sum of the numbers taken selects that sum from them
-use Prim.Native.Nat.{ℕ, suc, _+_, _^_, _<_}
+--   scans-all      a scan of numbers that it says are independent holds them all
+--   scans-unique   two right scans of a list say the same, and hold as many, so the same, numbers of it
+use Prim.Native.Nat.{ℕ, suc, _+_, _^_, _≤_, _<_}
 use mathlib.Core.Path.{_≡_, sym, ap, ap₂, _∙_}
-use mathlib.Core.Bool.{false}
+use mathlib.Core.Bool.{true, false}
 use mathlib.Core.List.{List, [], _∷_, _++_}
 use mathlib.Core.Logic.{_↔_, ⊎-elim}
+use native.Mathlib.Decide.{decLt}
+use native.Mathlib.Nat.{le-antisymm}
 use native.Mathlib.Numerals.{add-one}
 use native.Mathlib.Omega.{arith}
 use lib.ListN.{length, getD, take, drop, take-append-drop, length-take}
-use lib.Seq.{take-suc, length-take-le}
+use lib.Seq.{take-suc, take-all, length-take-le}
 use Rattle.bits.specs.Image.{image}
 use Rattle.bits.proofs.ImageLaws.{image-prefix}
 use Rattle.kinds.specs.Answers.{Says}
@@ -18,12 +22,13 @@ use Rattle.kinds.proofs.TruthLaws.{false≢true, says-same}
 use Rattle.span.specs.Sums.{SumOf, sumOf?}
 use Rattle.span.specs.Scan.{SumBefore, IsKept, kept, mask}
 use Rattle.span.specs.Held.{Holds}
-use Rattle.span.specs.Take.{room, Next, Takes, Asks}
+use Rattle.span.specs.Take.{room, Next, Takes, Asks, Scans}
 use Rattle.span.specs.declared.Scan.{Scan}
 use Rattle.span.specs.declared.Taken.{Taken}
+use Rattle.span.specs.declared.Scanned.{Scanned}
 use Rattle.span.proofs.SumLaws.{span-trans}
 use Rattle.span.proofs.ScanLaws.{kept-or-sum, IsKept-prefix, mask-prefix}
-use Rattle.span.proofs.MaskLaws.{mask-before, mask-sum}
+use Rattle.span.proofs.MaskLaws.{mask-before, mask-sum, dependent-at}
 use Rattle.span.proofs.RankLaws.{kept-sum}
 use Rattle.span.proofs.SnocLaws.{next-at, SumBefore-snoc}
 
@@ -76,3 +81,22 @@ asked {cs} {v = v} {r} h s a =
     let is = a .sum cs h known in
     let low : r < 2 ^ length cs = rw is (mask-before more (length cs) (SumBefore-snoc cs v .1 known)) in
     (low, sym (image-prefix cs (v ∷ []) r low) ∙ ap (image more) is ∙ mask-sum more (length cs) ∙ next-at cs v)
+
+module _ {vs : List ℕ} {r : Scanned} (s : Scans vs r) where
+  within : r .scan .count ≤ length vs
+  within = omega (arith, s .holds .counted, length-take (r .scan .count) vs)
+
+  pub scans-all : r .independent ≡ true → Holds (r .scan) vs
+  scans-all e = elim (decLt (r .scan .count) (length vs)) [
+    | yes before ↦ absurd (dependent-at vs (r .scan .count) before (s .stops before) (s .says .0 e))
+    | no end ↦ rw (take-all (r .scan .count) vs (omega arith)) at (s .holds)
+  ]
+
+  no-longer : {q : Scanned} → Scans vs q → r .scan .count ≤ q .scan .count
+  no-longer {q} t = elim (decLt (q .scan .count) (r .scan .count)) [
+    | yes longer ↦ absurd (s .all-kept (q .scan .count) longer (t .stops (omega (arith, within))))
+    | no not ↦ omega arith
+  ]
+
+pub scans-unique : {vs : List ℕ} {r q : Scanned} → Scans vs r → Scans vs q → (r .independent ≡ q .independent) × (r .scan .count ≡ q .scan .count)
+scans-unique {r = r} {q} s t = (says-same (r .independent) (q .independent) (s .says) (t .says), le-antisymm (no-longer s t) (no-longer t s))

@@ -1,6 +1,8 @@
 // The scan: numbers come one by one, and one that is no sum of those kept before it is kept.
+ghost use Rattle.kinds.specs.Answers.{Says};
+ghost use Rattle.span.specs.Sums.{Independent};
 ghost use Rattle.span.specs.Held.{Holds, Reduces};
-ghost use Rattle.span.specs.Take.{Takes, Asks};
+ghost use Rattle.span.specs.Take.{Takes, Asks, Scans};
 ghost use mathlib.Core.List.{[]};
 
 // What a scan has kept, in echelon form. An entry is a row in its upper 16 bits, and in its lower 16 the mask that says which
@@ -66,6 +68,41 @@ impl Scan {
         }
         left as u16
     }
+}
+
+pub struct Scanned {
+    pub scan: Scan,
+    pub independent: bool,
+}
+
+// Takes the numbers in order, up to the first that is a sum of those before it.
+pub fn scan_all(numbers: &[u16]) -> Scanned
+    ensures { λ r. ⌜ Scans (now (numbers .entry)) r ⌝ }
+{
+    let mut scan = Scan::new();
+    let mut j = 0;
+    while j < numbers.len() {
+        let taken = scan.take(numbers[j]);
+        if !taken.kept {
+            return Scanned {
+                scan,
+                independent: false,
+            };
+        }
+        scan = taken.scan;
+        j += 1;
+    }
+    Scanned {
+        scan,
+        independent: true,
+    }
+}
+
+pub fn independent(numbers: &[u16]) -> bool
+    ensures { λ r. ⌜ Says r (Independent (now (numbers .entry))) ⌝ }
+{
+    let scanned = scan_all(numbers);
+    scanned.independent
 }
 
 // Takes away the entry with as many leading zeros, as long as there is one: what is left is then smaller.

@@ -18,6 +18,7 @@ use Rattle.kinds.specs.declared.Refusal.the-variants.{Length}
 use Rattle.kinds.proofs.TruthLaws.{denied}
 use Rattle.kinds.proofs.AnswerLaws.{not-both}
 use Rattle.kinds.proofs.LowestLaws.{lowest-nil, lowest-take, lowest-skip}
+use Rattle.span.proofs.TakeLaws.{scans-all}
 use Rattle.order.specs.Table.{tooLarge, dependent, columnTable}
 use Rattle.order.specs.Inside.{ChecksColumns}
 use Rattle.order.specs.declared.Checked.{Checked}
@@ -60,8 +61,8 @@ returns-2 c = refuses (c .refused2 .ensures) (own-length (c .before .if2 .taken)
 within-bits-requires : tie.Need-within-bits-requires
 within-bits-requires c κs = search needs
 
-scan-columns-requires : tie.Need-scan-columns-requires
-scan-columns-requires c κs = omega (arith, c .before .if2 .left, c .before .before .before .before .pre)
+scan-all-requires : tie.Need-scan-all-requires
+scan-all-requires c κs = search needs
 
 refused-requires-3 : tie.Need-refused-requires-3
 refused-requires-3 c κs = search needs
@@ -70,7 +71,7 @@ refused-requires-4 : tie.Need-refused-requires-4
 refused-requires-4 c κs = search needs
 
 -- the lengths are right, and the columns have been scanned
-module _ (c : tie.After-scan-columns) where
+module _ (c : tie.After-scan-all) where
   abbrev start : tie.Start
   start = c .before .before .before .before .before
 
@@ -92,17 +93,17 @@ returns-4 : tie.Need-returns-4
 returns-4 c =
     let scanned = c .before .before .before in
     refuses (c .refused4 .ensures)
-    (past-3 scanned (not-false _ (c .before .before .if3 .left)) (lowest-take _ _ (denied (scanned .scan-columns .ensures .says) (not-true _ (c .before .if4 .taken)))))
+    (past-3 scanned (not-false _ (c .before .before .if3 .left)) (lowest-take _ _ (denied (scanned .scan-all .ensures .says) (not-true _ (c .before .if4 .taken)))))
 
 returns-5 : tie.Need-returns-5
 returns-5 c =
     let scanned = c .before .before .before in
     let says = not-false _ (c .before .if4 .left) in
-    let independent = scanned .scan-columns .ensures .says .0 says in
+    let independent = scanned .scan-all .ensures .says .0 says in
     record {
       answer = λ others f.
           sym (past-3 scanned (not-false _ (c .before .before .if3 .left)) (lowest-skip _ _ (λ d. d independent) ∙ lowest-nil) .gives others f);
-      holds = λ d. scanned .scan-columns .ensures .holds says;
+      holds = λ d. scans-all (scanned .scan-all .ensures) says;
     }
 
 pub check-columns-spec : {M : Type 1} → statement M
@@ -114,7 +115,7 @@ check-columns-spec =
     refused-requires-2
     returns-2
     within-bits-requires
-    scan-columns-requires
+    scan-all-requires
     refused-requires-3
     returns-3
     refused-requires-4

@@ -13,7 +13,8 @@ use Rattle.kinds.specs.declared.Answer.the-variants.{Done}
 use Rattle.kinds.proofs.TruthLaws.{denied}
 use Rattle.kinds.proofs.AnswerLaws.{refuses, does}
 use Rattle.order.proofs.TableLaws.{order-sound}
-use Rattle.plan.specs.Tool.{planLengths, planTable, IsPlanned}
+use Rattle.sheet.specs.Table.{sheetLengths}
+use Rattle.plan.specs.Tool.{planTable, IsPlanned}
 use Rattle.plan.specs.Inside.{Plannable}
 use Rattle.plan.proofs.PlannedLaws.{planned}
 use Rattle.plan.proofs.plan.Statement.{statement}
@@ -42,7 +43,7 @@ module _ (c : tie.After-is-done) where
   sheet = start .args .sheet .now
 
   says : said (c .before .check-with-k .result) ≡ lowest (planTable edition1 n k C sheet)
-  says = c .before .check-with-k .ensures (planLengths edition1 sheet) (λ e. (eqb-true _ _ e, tt), λ right. eq-eqb _ _ (right .0))
+  says = c .before .check-with-k .ensures (sheetLengths edition1 sheet) (λ e. (eqb-true _ _ e, tt), λ right. eq-eqb _ _ (right .0))
 
   module _ (yes-done : c .is-done .result ≡ true) where
     done : c .before .check-with-k .result ≡ Done
@@ -50,7 +51,7 @@ module _ (c : tie.After-is-done) where
 
     sound : Plannable n k C sheet
     sound =
-        let (sized, right, order) = order-sound (sized? edition1 n k) n C (planLengths edition1 sheet) .0 (sym says ∙ ap said done) in
+        let (sized, right, order) = order-sound (sized? edition1 n k) n C (sheetLengths edition1 sheet) .0 (sym says ∙ ap said done) in
         record { ordered = record { sized = sized; order = order }; places = right .0 }
 
 returns : tie.Need-returns

@@ -1,0 +1,74 @@
+-- The inspector's table on the bit reversal sheet (n 3, k 1), computed on the written meaning: passed; with one thing wrong; and with two, of which the lower is given.
+use Prim.Native.Nat.{ℕ}
+use mathlib.Core.Path.{_≡_, refl}
+use mathlib.Core.List.{List, [], _∷_, map}
+use native.Mathlib.Decide.{ℕ-discrete, decLe, decLt}
+use lib.Count.{ones}
+use lib.ListN.{set}
+use Rattle.kinds.specs.Edition.{edition1, sized?}
+use Rattle.kinds.specs.Refusal.{given}
+use Rattle.kinds.specs.Lowest.{lowest}
+use Rattle.kinds.specs.Reasons.{rightLengths?}
+use Rattle.kinds.specs.Search.{someBelow, eachBelow}
+use Rattle.bits.specs.Image.{image, allBelow?}
+use Rattle.bits.specs.Parity.{parity, dot}
+use Rattle.span.specs.Maps.{bijection?}
+use Rattle.span.specs.Sums.{independent?}
+use Rattle.sheet.specs.Sheet.{stagesIn}
+use Rattle.sheet.specs.Layout.{fromTo?, stageInRange?, eachStage?, inRange?, allZero?, formedSide?, wellFormed?}
+use Rattle.sheet.proofs.Cases.{reversal}
+use Rattle.maps.specs.Cells.{afterStages}
+use Rattle.inspect.specs.Tool.{inspectTable}
+
+computed : Unit {0}
+unfolding lowest ℕ-discrete sized? rightLengths? someBelow eachBelow decLe decLt image allBelow? parity dot ones bijection? independent? stagesIn fromTo? stageInRange? eachStage? inRange? allZero? formedSide? wellFormed? afterStages
+computed = tt
+
+abbrev verdict : ℕ × ℕ × List ℕ × List ℕ → ℕ
+verdict (n, k, C, s) = given (lowest (inspectTable edition1 n k C s))
+
+abbrev order : List ℕ
+order = 4 ∷ 2 ∷ 1 ∷ []
+
+abbrev broken : List ℕ → List ℕ
+broken s = set s 17 0
+
+abbrev write-unwired : List ℕ → List ℕ
+write-unwired s = set s 10 0
+
+abbrev read-unwired : List ℕ → List ℕ
+read-unwired s = set s 42 0
+
+abbrev shared : List ℕ → List ℕ
+shared s = set s 17 1
+
+one-wrong : map verdict (
+    (3, 1, order, reversal)
+    ∷ (3, 4, order, reversal)
+    ∷ (3, 1, 4 ∷ 2 ∷ [], reversal)
+    ∷ (3, 1, order, [])
+    ∷ (3, 1, 8 ∷ 2 ∷ 1 ∷ [], reversal)
+    ∷ (3, 1, 4 ∷ 2 ∷ 6 ∷ [], reversal)
+    ∷ (3, 1, order, broken reversal)
+    ∷ (3, 1, order, write-unwired reversal)
+    ∷ (3, 1, order, read-unwired reversal)
+    ∷ (3, 1, order, shared reversal)
+    ∷ (3, 1, 4 ∷ 1 ∷ 2 ∷ [], reversal)
+    ∷ []
+    ) ≡ 0 ∷ 1 ∷ 2 ∷ 2 ∷ 3 ∷ 4 ∷ 5 ∷ 6 ∷ 7 ∷ 8 ∷ 9 ∷ []
+unfolding computed
+one-wrong = refl
+
+two-wrong : map verdict (
+    (11, 1, order, reversal)
+    ∷ (3, 1, 8 ∷ 2 ∷ 1 ∷ [], [])
+    ∷ (3, 1, 8 ∷ 8 ∷ 1 ∷ [], reversal)
+    ∷ (3, 1, 4 ∷ 2 ∷ 6 ∷ [], broken reversal)
+    ∷ (3, 1, order, write-unwired (broken reversal))
+    ∷ (3, 1, order, write-unwired (read-unwired reversal))
+    ∷ (3, 1, order, read-unwired (shared reversal))
+    ∷ (3, 1, 4 ∷ 1 ∷ 2 ∷ [], shared reversal)
+    ∷ []
+    ) ≡ 1 ∷ 2 ∷ 3 ∷ 4 ∷ 5 ∷ 6 ∷ 7 ∷ 8 ∷ []
+unfolding computed
+two-wrong = refl

@@ -62,7 +62,7 @@ maskBy (no n) ps i = 2 ^ i
 
 unfoldable pub mask : List ℕ → ℕ → ℕ
 unfolding keptAt sumOf?
-mask vs i = maskBy (sumOf? (members vs (keptAt vs i)) (getD vs i 0)) (keptAt vs i) i
+mask vs i = maskBy (sumBefore? vs i) (keptAt vs i) i
 
 unfoldable pub masks : List ℕ → List ℕ
 unfolding inOrder mask

@@ -1,4 +1,5 @@
--- The inspector's table on the bit reversal sheet (n 3, k 1), computed on the written meaning: passed; with one thing wrong; and with two, of which the lower is given.
+-- The inspector's table, computed on the written meaning: sheets of 01, passed and refused; the bit reversal sheet (n 3, k 1) with one thing wrong before 6, and with two things wrong, of which the
+-- lower is given.
 use Prim.Native.Nat.{ℕ}
 use mathlib.Core.Path.{_≡_, refl}
 use mathlib.Core.List.{List, [], _∷_, map}
@@ -18,6 +19,7 @@ use Rattle.sheet.specs.Sheet.{stagesIn}
 use Rattle.sheet.specs.Layout.{fromTo?, stageInRange?, eachStage?, inRange?, allZero?, formedSide?, wellFormed?}
 use Rattle.sheet.proofs.Cases.{reversal}
 use Rattle.maps.specs.Cells.{afterStages}
+use Rattle.promise.proofs.Cases.{gray, identity, turning, one-tick}
 use Rattle.inspect.specs.Tool.{inspectTable}
 
 computed : Unit {0}
@@ -30,6 +32,7 @@ verdict (n, k, C, s) = given (lowest (inspectTable edition1 n k C s))
 abbrev order : List ℕ
 order = 4 ∷ 2 ∷ 1 ∷ []
 
+-- a write control of 0
 abbrev broken : List ℕ → List ℕ
 broken s = set s 17 0
 
@@ -39,25 +42,30 @@ write-unwired s = set s 10 0
 abbrev read-unwired : List ℕ → List ℕ
 read-unwired s = set s 42 0
 
+-- write control 1 for 2
 abbrev shared : List ℕ → List ℕ
 shared s = set s 17 1
 
-one-wrong : map verdict (
-    (3, 1, order, reversal)
-    ∷ (3, 4, order, reversal)
+-- 01's cases, and an order for its inverse
+verdicts : map verdict (
+    (3, 1, order, reversal) ∷ (2, 1, 1 ∷ 3 ∷ [], gray) ∷ (2, 1, 1 ∷ 2 ∷ [], identity) ∷ (2, 1, 2 ∷ 3 ∷ [], turning) ∷ (2, 2, 2 ∷ 1 ∷ [], one-tick)
+    ∷ (3, 1, order, write-unwired reversal) ∷ (3, 1, order, read-unwired reversal) ∷ (3, 1, order, shared reversal)
+    ∷ (2, 1, 1 ∷ 3 ∷ [], identity) ∷ (2, 1, 3 ∷ 1 ∷ [], turning) ∷ []
+    ) ≡ 0 ∷ 0 ∷ 0 ∷ 0 ∷ 0 ∷ 6 ∷ 7 ∷ 8 ∷ 9 ∷ 9 ∷ []
+unfolding computed
+verdicts = refl
+
+refused-before : map verdict (
+    (3, 4, order, reversal)
     ∷ (3, 1, 4 ∷ 2 ∷ [], reversal)
     ∷ (3, 1, order, [])
     ∷ (3, 1, 8 ∷ 2 ∷ 1 ∷ [], reversal)
     ∷ (3, 1, 4 ∷ 2 ∷ 6 ∷ [], reversal)
     ∷ (3, 1, order, broken reversal)
-    ∷ (3, 1, order, write-unwired reversal)
-    ∷ (3, 1, order, read-unwired reversal)
-    ∷ (3, 1, order, shared reversal)
-    ∷ (3, 1, 4 ∷ 1 ∷ 2 ∷ [], reversal)
     ∷ []
-    ) ≡ 0 ∷ 1 ∷ 2 ∷ 2 ∷ 3 ∷ 4 ∷ 5 ∷ 6 ∷ 7 ∷ 8 ∷ 9 ∷ []
+    ) ≡ 1 ∷ 2 ∷ 2 ∷ 3 ∷ 4 ∷ 5 ∷ []
 unfolding computed
-one-wrong = refl
+refused-before = refl
 
 two-wrong : map verdict (
     (11, 1, order, reversal)

@@ -5,10 +5,8 @@
 use Prim.Native.Nat.{ℕ, _^_, _<_}
 use mathlib.Core.Path.{_≡_, ap, _∙_}
 use mathlib.Core.List.{List}
-use mathlib.Core.Logic.{_↔_}
+use mathlib.Core.Logic.{_↔_, Iff·rfl, Iff·symm, Iff·trans}
 use native.Mathlib.Decide.{ℕ-discrete}
-use native.Mathlib.Omega.{arith}
-use lib.ListN.{getD}
 use lib.Pow.{pow-lt}
 use Rattle.kinds.proofs.TruthLaws.{stable}
 use Rattle.bits.specs.Image.{Linear}
@@ -23,7 +21,7 @@ use Rattle.maps.specs.declared.OpenSide.{OpenSide}
 use Rattle.maps.proofs.CellLaws.{cell-into, cell-linear, cell-bijection}
 use Rattle.promise.specs.Passes.{Invertible, ShareCell, Differ}
 use Rattle.promise.proofs.PassLaws.{shares-invertible}
-use Rattle.inspect.specs.Inside.{Agree}
+use Rattle.inspect.specs.Inside.{AgreeAt, Agree}
 
 module _ {n k : ℕ} {o : OpenSide} {W : Side} (shows : Shows n k o W) where
   pub wiring-tells : Invertible k W ↔ Independent (W .wiring)
@@ -37,7 +35,7 @@ module _ {n k : ℕ} {o : OpenSide} {W : Side} (shows : Shows n k o W) where
       let into = cell-into (shows .used) (shows .ports) in
       let own = shares-invertible n (cellOf k W) (λ i h. into i) in
       let columns = cell-bijection (shows .used) (shows .ports) in
-      (λ apart. columns .0 (own .1 apart), λ independent. own .0 (columns .1 independent))
+      Iff·trans (Iff·symm own) columns
 
 module _ {n k : ℕ} {o p : OpenSide} {W R : Side} (write : Shows n k o W) (read : Shows n k p R) (C : List ℕ) where
   abbrev after : ℕ → ℕ
@@ -46,12 +44,12 @@ module _ {n k : ℕ} {o p : OpenSide} {W R : Side} (write : Shows n k o W) (read
   after-linear : Linear after
   after-linear x y = ap (cellOf k R) (image-xor C x y) ∙ cell-linear (read .used) (place C x) (place C y)
 
-  at-unit : (j : ℕ) → j < n → (getD (cellColumns n k W) j 0 ≡ cellOf k R (getD C j 0)) ↔ (cellOf k W (2 ^ j) ≡ after (2 ^ j))
-  at-unit j h = rw (columns-at n (cellOf k W) j h) (rw (image-unit C j) (λ e. e, λ e. e))
+  at-unit : (j : ℕ) → j < n → AgreeAt k C (cellColumns n k W) R j ↔ (cellOf k W (2 ^ j) ≡ after (2 ^ j))
+  at-unit j h = rw (columns-at n (cellOf k W) j h) (rw (image-unit C j) Iff·rfl)
 
   pub columns-tell : (¬ Differ n (cellOf k W) (cellOf k R) (place C)) ↔ Agree n k C (cellColumns n k W) R
   columns-tell = (
-    λ same j h. at-unit j (omega arith) .1 (stable (ℕ-discrete (cellOf k W (2 ^ j)) (after (2 ^ j))) (λ differ. same (2 ^ j, pow-lt (omega arith), differ))),
+    λ same j h. at-unit j h .1 (stable (ℕ-discrete (cellOf k W (2 ^ j)) (after (2 ^ j))) (λ differ. same (2 ^ j, pow-lt h, differ))),
     λ agree (i, h, differ).
-        differ (linear-agree n (cellOf k W) after (cell-linear (write .used)) after-linear (λ j l. at-unit j l .0 (agree j (omega arith))) i h),
+        differ (linear-agree n (cellOf k W) after (cell-linear (write .used)) after-linear (λ j l. at-unit j l .0 (agree j l)) i h),
   )

@@ -2,27 +2,28 @@
 --   inspect-ascending    its numbers go up, so the first that applies is the lowest
 --   inspect-none         none applies exactly where none of 1 to 5 does, and the sheet passes
 --   inspects-by          an answer that gives the lowest of 1 to 9 is what the inspector promises
+--   inspects-right       of a sheet that is right, passed is
 --   inspects-unique      the inspector has one answer
 use Prim.Native.Nat.{ℕ}
 use mathlib.Core.Path.{_≡_, sym, ap, _∙_}
-use mathlib.Core.List.{List}
+use mathlib.Core.List.{List, _∷_}
 use mathlib.Core.Logic.{_↔_}
 use mathlib.Core.Option.{none}
 use native.Mathlib.Omega.{arith}
 use Rattle.kinds.specs.Edition.{Edition, sized?}
-use Rattle.kinds.specs.Lowest.{lowest, Ascending}
+use Rattle.kinds.specs.Lowest.{Reason, lowest, Ascending}
 use Rattle.kinds.specs.Refusal.{said}
 use Rattle.kinds.specs.declared.Answer.{Answer}
 use Rattle.kinds.specs.declared.Answer.the-variants.{Done}
 use Rattle.kinds.proofs.TruthLaws.{stable}
 use Rattle.kinds.proofs.AnswerLaws.{said-same}
-use Rattle.kinds.proofs.LowestLaws.{lowest-none}
+use Rattle.kinds.proofs.LowestLaws.{lowest-none, lowest-both}
 use Rattle.order.specs.Table.{orderTable}
 use Rattle.order.proofs.TableLaws.{order-sound}
 use Rattle.sheet.specs.Layout.{wellFormed?}
-use Rattle.sheet.specs.Table.{sheetLengths}
+use Rattle.sheet.specs.Table.{brokenLayout, sheetLengths}
 use Rattle.promise.specs.Series.{Right}
-use Rattle.promise.specs.Passes.{Passes}
+use Rattle.promise.specs.Passes.{passTable, Passes}
 use Rattle.promise.proofs.ExactLaws.{exact}
 use Rattle.promise.proofs.BoundLaws.{read-stages}
 use Rattle.inspect.specs.Tool.{inspectTable, Inspectable, Inspects}
@@ -31,38 +32,46 @@ module _ (e : Edition) (n k : ℕ) (C s : List ℕ) where
   pub inspect-ascending : Ascending (inspectTable e n k C s)
   inspect-ascending = (omega arith, (omega arith, omega arith))
 
+  abbrev first : List Reason
+  first = orderTable (sized? e n k) n C (sheetLengths e s)
+
+  abbrev rest : List Reason
+  rest = brokenLayout e n k s ∷ passTable e n k C s
+
   pub inspect-none : lowest (inspectTable e n k C s) ≡ none ↔ (Inspectable e n k C s × Passes e n k C s)
   inspect-none = (
     λ none-given.
-        let (sizes, (lent, (large, (dependent, (layout, judged))))) = lowest-none (inspectTable e n k C s) .0 none-given in
-        let (sized, right, order) = order-sound (sized? e n k) n C (sheetLengths e s) .0 (lowest-none (orderTable (sized? e n k) n C (sheetLengths e s)) .1 (sizes, (lent, (large, (dependent, tt))))) in (
-          record { sized = sized; order = order; places = right .0; formed = stable (wellFormed? e n k s) layout },
-          record { none-applies = judged },
+        let (checked, judged) = lowest-both first rest .0 none-given in
+        let (sized, right, order) = order-sound (sized? e n k) n C (sheetLengths e s) .0 checked in
+        let (layout, passes) = lowest-none rest .0 judged in
+        (record { sized = sized; order = order; places = right .0; formed = stable (wellFormed? e n k s) layout }, record { none-applies = passes }),
+    λ (whole, ok).
+        lowest-both first rest .1 (
+          order-sound (sized? e n k) n C (sheetLengths e s) .1 (whole .sized, (whole .places, tt), whole .order),
+          lowest-none rest .1 (λ broken. broken (whole .formed), ok .none-applies),
         ),
-    λ (sound, ok).
-        let (sizes, (lent, (large, (dependent, _)))) =
-        lowest-none (orderTable (sized? e n k) n C (sheetLengths e s)) .0
-        (order-sound (sized? e n k) n C (sheetLengths e s) .1 (sound .sized, (sound .places, tt), sound .order)) in
-        lowest-none (inspectTable e n k C s) .1 (sizes, (lent, (large, (dependent, (λ broken. broken (sound .formed), ok .none-applies))))),
   )
 
 module _ {e : Edition} {n k : ℕ} {C s : List ℕ} where
-  sound-exact : Inspectable e n k C s → Passes e n k C s ↔ Right e n k C s
-  sound-exact sound = exact (omega (arith, sound .sized .most)) (sound .order) (sound .formed)
+  whole-exact : Inspectable e n k C s → Passes e n k C s ↔ Right e n k C s
+  whole-exact whole = exact (omega (arith, whole .sized .most)) (whole .order) (whole .formed)
 
   pub inspects-by : {r : Answer} → said r ≡ lowest (inspectTable e n k C s) → Inspects e n k C s r
   inspects-by {r} gives = record {
     lowest-of = gives;
     inspectable = λ done. passed done .0;
-    exact = λ sound. (
-      λ done. sound-exact sound .0 (passed done .1),
-      λ right. said-same r Done (gives ∙ inspect-none e n k C s .1 (sound, sound-exact sound .1 right)),
+    exact = λ whole. (
+      λ done. whole-exact whole .0 (passed done .1),
+      λ right. said-same r Done (gives ∙ inspect-none e n k C s .1 (whole, whole-exact whole .1 right)),
     );
-    stages = λ done. let (sound, ok) = passed done in read-stages (omega (arith, sound .sized .most)) (sound .order) (sound .formed) ok;
+    stages = λ done. let (whole, ok) = passed done in read-stages (omega (arith, whole .sized .most)) (whole .order) (whole .formed) ok;
   }
     where
       passed : r ≡ Done → Inspectable e n k C s × Passes e n k C s
       passed done = inspect-none e n k C s .0 (sym gives ∙ ap said done)
+
+  pub inspects-right : Inspectable e n k C s → Right e n k C s → Inspects e n k C s Done
+  inspects-right whole right = inspects-by (sym (inspect-none e n k C s .1 (whole, whole-exact whole .1 right)))
 
 pub inspects-unique : {e : Edition} {n k : ℕ} {C s : List ℕ} (r q : Answer) → Inspects e n k C s r → Inspects e n k C s q → r ≡ q
 inspects-unique r q i j = said-same r q (i .lowest-of ∙ sym (j .lowest-of))

@@ -1,8 +1,9 @@
 -- What the functions inside the crate promise one another.
---   Agree n k C w R       M, which has the columns w, is N P on the words 2^j, where R is the read side: column j is the cell that N has for the place of word 2^j
---   Comparable n k C w    n columns of each are lent, and k is within an opened side
+--   AgreeAt k C w R j     column j of w is the cell that the side R has for the place of word 2^j
+--   Agree n k C w R       M, which has the columns w, is N P on the words 2^0 to 2^(n-1), where R is the read side
+--   Comparable n k C w    there are n columns or more of each, and k is at most 16
 --   Agrees n k C w o r    r says whether they agree, of whichever side o shows
---   Judgeable n k C       n and k are within an opened side, and there are n columns
+--   Judgeable n k C       k is at most n, and n at most 16; C is n columns
 --   Judges n k C o p r    where o and p show the sides of a sheet, r is the lowest of 6 to 9 that applies to it
 use Prim.Native.Nat.{ℕ, _<_, _≤_}
 use mathlib.Core.Path.{_≡_}
@@ -20,8 +21,11 @@ use Rattle.maps.specs.Opened.{openWidth, Shows}
 use Rattle.maps.specs.declared.OpenSide.{OpenSide}
 use Rattle.promise.specs.Passes.{passTable}
 
+abbrev pub AgreeAt : ℕ → List ℕ → List ℕ → Side → ℕ → Type 0
+AgreeAt k C w R j = getD w j 0 ≡ cellOf k R (getD C j 0)
+
 abbrev pub Agree : ℕ → ℕ → List ℕ → List ℕ → Side → Type 0
-Agree n k C w R = (j : ℕ) → j < n → getD w j 0 ≡ cellOf k R (getD C j 0)
+Agree n k C w R = (j : ℕ) → j < n → AgreeAt k C w R j
 
 pub record Comparable (n k : ℕ) (C w : List ℕ) : Type 0 where
   pub ports : k ≤ openWidth
@@ -29,7 +33,7 @@ pub record Comparable (n k : ℕ) (C w : List ℕ) : Type 0 where
   pub cells : n ≤ length w
 
 abbrev pub Agrees : ℕ → ℕ → List ℕ → List ℕ → OpenSide → Bool → Type 0
-Agrees n k C w o r = (R : Side) → Shows n k o R → Says r (Agree n k C w R)
+Agrees n k C w o r = (m : ℕ) (R : Side) → Shows m k o R → Says r (Agree n k C w R)
 
 pub record Judgeable (n k : ℕ) (C : List ℕ) : Type 0 where
   pub ports : k ≤ n

@@ -13,16 +13,16 @@ pub fn inspect(n: u32, k: u32, columns: &[u16], sheet: &[u16]) -> Answer
     ensures { λ r. ⌜ Inspects edition1 n k (now (columns .entry)) (now (sheet .entry)) r ⌝ }
 {
     let fits = sheet.len() == sheet::SHEET;
-    let order = order::check_with_k(n, k, columns, fits);
-    let is_order = kinds::is_done(order);
+    let checked = order::check_with_k(n, k, columns, fits);
+    let is_order = kinds::is_done(checked);
     if !is_order {
-        return order;
+        return checked;
     }
     let opened = maps::open(n, k, sheet, true);
-    let layout = opened.answer;
-    let is_formed = kinds::is_done(layout);
+    let answer = opened.answer;
+    let is_formed = kinds::is_done(answer);
     if !is_formed {
-        return layout;
+        return answer;
     }
     judge(n, k, columns, opened.write, opened.read)
 }

@@ -1,7 +1,8 @@
 -- Answers, and what they leave.
 --   not-both          no answer is done and a refusal
 --   said-same         answers that say the same are the same
---   said-before       a refusal that is a table's is that of any longer table
+--   said-before       what an answer refuses by a table, it refuses by that table with another after it
+--   one-length        a comparison of one lent length says whether it is right
 --   some-lengths      either bool says of some lengths whether they are right
 --   checks-unique     a check has one right answer
 --   refused-by        how a refusal meets `Answers`: it is the table's, and everything is as it came
@@ -16,6 +17,8 @@ use mathlib.Core.List.{List, [], _∷_, _++_}
 use mathlib.Core.Option.{Option, none, some}
 use Prim.Native.Nat.{ℕ}
 use native.Mathlib.Omega.{arith}
+use borrow.Author.Tests.{eqb-true, eq-eqb}
+use lib.Dec.{eqb}
 use Rattle.kinds.specs.Refusal.{said}
 use Rattle.kinds.specs.Lowest.{Reason, lowest}
 use Rattle.kinds.specs.Reasons.{RightLengths}
@@ -38,6 +41,9 @@ said-same (Refused x) (Refused y) e = cc
 pub said-before : (s t : List Reason) (r : Answer) → ¬ (r ≡ Done) → said r ≡ lowest s → said r ≡ lowest (s ++ t)
 said-before s t Done refuses e = absurd (refuses refl)
 said-before s t (Refused x) refuses e = sym (lowest-before s t (sym e))
+
+pub one-length : (lent right : ℕ) → Says (eqb lent right) (RightLengths ((lent, right) ∷ []))
+one-length lent right = (λ e. (eqb-true lent right e, tt), λ same. eq-eqb lent right (same .0))
 
 pub some-lengths : (fits : Bool) → (others : List (ℕ × ℕ)) × Says fits (RightLengths others)
 some-lengths true = ([], says-yes tt)

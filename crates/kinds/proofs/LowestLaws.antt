@@ -5,8 +5,8 @@
 --   lowest-skip     a first reason that doesn't leaves the rest to decide
 --   lowest-append   a table after another decides where that one gives nothing
 --   lowest-before   what a table gives, it gives with another after it
---   lowest-after    where a table and another after it give nothing, that other gives nothing
 --   lowest-none     nothing is given exactly when no reason applies
+--   lowest-both     a table and another after it give nothing exactly when neither does
 --   lowest-first    what is given is the first that applies, and nothing else
 --   lowest-has      what every refusal of a table has, the one that is given has
 --   lowest-law      of a table with ascending numbers, what is given is the lowest that applies, and nothing else
@@ -70,9 +70,15 @@ lowest-before (r ∷ s) t {x} e = go (lowest-before s t) (r .decided)
     go rest (yes a) = lowest-take r (s ++ t) a ∙ sym (lowest-take r s a) ∙ e
     go rest (no n) = lowest-skip r (s ++ t) n ∙ rest (sym (lowest-skip r s n) ∙ e)
 
-pub lowest-after : (s t : List Reason) → lowest (s ++ t) ≡ none → lowest t ≡ none
-lowest-after [] t e = e
-lowest-after (r ∷ s) t e = lowest-after s t (sym (lowest-skip r (s ++ t) (none-each (r ∷ s ++ t) e .0)) ∙ e)
+both-none : (s t : List Reason) → EachReason (λ r. ¬ r .applies) (s ++ t) → EachReason (λ r. ¬ r .applies) s × (lowest t ≡ none)
+both-none [] t h = (tt, each-none t h)
+both-none (r ∷ s) t h = let (own, rest) = both-none s t (h .1) in ((h .0, own), rest)
+
+pub lowest-both : (s t : List Reason) → lowest (s ++ t) ≡ none ↔ ((lowest s ≡ none) × (lowest t ≡ none))
+lowest-both s t = (
+  λ e. let (own, rest) = both-none s t (none-each (s ++ t) e) in (each-none s own, rest),
+  λ (own, rest). lowest-append s t (none-each s own) ∙ rest,
+)
 
 given-first : (t : List Reason) (x : Refusal) → lowest t ≡ some x → FirstThatApplies t x
 given-first [] x e = none-some (sym lowest-nil ∙ e)

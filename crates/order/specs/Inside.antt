@@ -1,5 +1,5 @@
 -- What the functions inside the crate promise one another.
---   Few C                      a scan has room for the columns C
+--   Few C                      there are at most 16 columns C
 --   ChecksColumns n C fits r   r is the lowest of 2 to 4 that applies, fits as in `Checks`; if none does, the scan holds C
 --   ChecksAndScans n C fits r  the same of 1 to 4, for a tool that takes no k
 --   UndoesHeld scan m m'       whatever order the scan holds, of as many columns as m has, m' undoes it

@@ -1,4 +1,4 @@
--- The meanings on sheets of 01: 6 to 9 of passed and of wrong sheets; what series of calls hand out; and how the wrong sheets show.
+-- The run on sheets of 01: what series of calls hand out, and how the wrong sheets show.
 --   gray, identity, turning, one-tick     sheets that pass, each for its own order
 use Prim.Native.Nat.{ℕ}
 use mathlib.Core.Path.{_≡_, refl}
@@ -58,18 +58,6 @@ singular = side 0 0 1 no-stage ++ side 0 0 1 no-stage
 abbrev pub one-tick : List ℕ
 one-tick = zeros 10 ++ (2 ∷ 1 ∷ zeros 20) ++ zeros 10 ++ (1 ∷ 2 ∷ zeros 20)
 
-abbrev verdict : ℕ × ℕ × List ℕ × List ℕ → ℕ
-verdict (n, k, C, s) = given (lowest (passTable edition1 n k C s))
-
--- 01's cases, and an order for its inverse
-verdicts : map verdict (
-    (3, 1, 4 ∷ 2 ∷ 1 ∷ [], reversal) ∷ (2, 1, 1 ∷ 3 ∷ [], gray) ∷ (2, 1, 1 ∷ 2 ∷ [], identity) ∷ (2, 1, 2 ∷ 3 ∷ [], turning) ∷ (2, 2, 2 ∷ 1 ∷ [], one-tick)
-    ∷ (2, 1, 1 ∷ 3 ∷ [], identity) ∷ (2, 1, 3 ∷ 1 ∷ [], turning)
-    ∷ (3, 1, 4 ∷ 2 ∷ 1 ∷ [], set reversal 17 1) ∷ (3, 1, 4 ∷ 2 ∷ 1 ∷ [], set reversal 10 0) ∷ (3, 1, 4 ∷ 2 ∷ 1 ∷ [], set reversal 42 0) ∷ []
-    ) ≡ 0 ∷ 0 ∷ 0 ∷ 0 ∷ 0 ∷ 9 ∷ 9 ∷ 8 ∷ 6 ∷ 7 ∷ []
-unfolding computed
-verdicts = refl
-
 abbrev fresh : ℕ → ℕ → Stand
 fresh places idle = record { state = record { a = 0; h = 0; r = idle }; memory = record { words = zeros places; marks = zeros places } }
 
@@ -107,7 +95,7 @@ faults = refl
 
 -- there M = N P for the identity, and still words are lost: 8, and the second call finds its cells filled
 lost : (map (M edition1 2 1 singular) (0 ∷ 1 ∷ 2 ∷ 3 ∷ []) ≡ map (N edition1 2 1 singular) (0 ∷ 1 ∷ 2 ∷ 3 ∷ []))
-    × (verdict (2, 1, 1 ∷ 2 ∷ [], singular) ≡ 8)
+    × (given (lowest (passTable edition1 2 1 (1 ∷ 2 ∷ []) singular)) ≡ 8)
     × (told 2 1 singular (fresh 8 2) ((0 ∷ 1 ∷ []) ∷ (2 ∷ 3 ∷ []) ∷ []) ≡ (0, []) ∷ (12, []) ∷ [])
 unfolding computed
 lost = (refl, refl, refl)

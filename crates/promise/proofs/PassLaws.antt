@@ -1,23 +1,18 @@
 -- When a sheet passes, and that its maps then fit the run.
---   passes-none         none of 6 to 9 applies exactly when the sheet passes
---   pass-ascending      their numbers go up, so the first that applies is the lowest
 --   shares-invertible   "M not invertible" and "two words share a cell" are one thing
 --   apart-wired         a side whose banks are apart has an invertible wiring
 --   passes-fits         the maps of a sheet that passes for an order fit the run under it
 --   fits-passes         and a sheet whose maps do passes
 use Prim.Native.Nat.{ℕ, _^_, _≤_}
-use mathlib.Core.Path.{_≡_, sym, _∙_}
+use mathlib.Core.Path.{sym, _∙_}
 use mathlib.Core.List.{List}
 use mathlib.Core.Logic.{_↔_}
-use mathlib.Core.Option.{none}
 use native.Mathlib.Decide.{ℕ-discrete}
 use native.Mathlib.Omega.{arith}
 use lib.Pow.{pow-pos}
 use Rattle.kinds.specs.Edition.{Edition}
 use Rattle.kinds.specs.Frame.{tickBits}
-use Rattle.kinds.specs.Lowest.{lowest, Ascending}
 use Rattle.kinds.proofs.TruthLaws.{stable}
-use Rattle.kinds.proofs.LowestLaws.{lowest-none}
 use Rattle.bits.specs.Image.{image}
 use Rattle.bits.proofs.ImageLaws.{image-lt}
 use Rattle.span.specs.Maps.{Into, Injective, Bijection, bijection?}
@@ -28,17 +23,7 @@ use Rattle.sheet.specs.Sheet.{Side, writeSide, readSide}
 use Rattle.sheet.specs.Layout.{InRange, WellFormed}
 use Rattle.maps.specs.Cells.{cellOf, M, N}
 use Rattle.maps.proofs.CellLaws.{same-bank, word-bank, wiring-part, cell-into}
-use Rattle.promise.specs.Passes.{Invertible, ShareCell, passTable, Passes, BanksApart, Fits}
-
-module _ (e : Edition) (n k : ℕ) (C s : List ℕ) where
-  pub passes-none : lowest (passTable e n k C s) ≡ none ↔ Passes e n k C s
-  passes-none = (
-    λ given. record { none-applies = lowest-none (passTable e n k C s) .0 given },
-    λ ok. lowest-none (passTable e n k C s) .1 (ok .none-applies),
-  )
-
-  pub pass-ascending : Ascending (passTable e n k C s)
-  pass-ascending = omega arith
+use Rattle.promise.specs.Passes.{Invertible, ShareCell, Passes, BanksApart, Fits}
 
 module _ (n : ℕ) (f : ℕ → ℕ) where
   own-injective : ¬ ShareCell n f → Injective f (2 ^ n)

@@ -20,7 +20,7 @@ use Rattle.kinds.specs.Edition.{Edition}
 use Rattle.kinds.specs.Frame.{ticks}
 use Rattle.kinds.specs.Lowest.{Reason, lowest}
 use Rattle.kinds.specs.declared.Refusal.{Refusal}
-use Rattle.kinds.proofs.LowestLaws.{lowest-none, lowest-append, lowest-after}
+use Rattle.kinds.proofs.LowestLaws.{lowest-none, lowest-append, lowest-both}
 use Rattle.bits.specs.Image.{AllBelow}
 use Rattle.maps.specs.Cells.{M, N}
 use Rattle.maps.proofs.CellLaws.{cell-into}
@@ -81,7 +81,7 @@ module _ (t : List Reason) (n k : ℕ) (f g : ℕ → ℕ) (st : State) (ws : Li
     pub call-filled : ((i : ℕ) → f i < 2 ^ n) → ((i : ℕ) → g i < 2 ^ n) → st .h < 2 → length (m .marks) ≡ 2 ^ (n + 1) → length ws ≡ rightTick k (length ws)
         → filledMarks (this .memory .marks) + cond (this .handed) (2 ^ k) 0 ≡ filledMarks (m .marks) + length ws
     call-filled into from half marks came =
-        let (clash, (filled, (crossed, (empty, _)))) = lowest-none (faults k writes reads (m .marks)) .0 (lowest-after t _ (sym call-given ∙ ok)) in
+        let (clash, (filled, (crossed, (empty, _)))) = lowest-none (faults k writes reads (m .marks)) .0 (lowest-both t _ .0 (sym call-given ∙ ok) .1) in
         let written : AllBelow (length (m .marks)) writes = rw marks (writes-below n k f into st ws half) in
         let taken : AllBelow (length (m .marks)) reads = rw marks (reads-below n k g from st) in
         rw (call-done ok) (

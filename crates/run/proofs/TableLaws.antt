@@ -5,18 +5,19 @@
 --   run-sound                      none applies exactly when nothing is wrong
 use Prim.Native.Nat.{ℕ}
 use mathlib.Core.Path.{_≡_}
-use mathlib.Core.List.{List, _∷_, _++_}
+use mathlib.Core.List.{List, _++_}
 use mathlib.Core.Logic.{_↔_}
 use mathlib.Core.Option.{none}
 use native.Mathlib.Omega.{arith}
 use lib.ListN.{length}
-use Rattle.kinds.specs.Edition.{Edition, Sized, sized?, sheetPlaces}
+use Rattle.kinds.specs.Edition.{Edition, Sized, sized?}
 use Rattle.kinds.specs.Frame.{ticks}
 use Rattle.kinds.specs.Lowest.{Reason, lowest, Ascending}
 use Rattle.kinds.specs.Reasons.{RightLengths, rightLengths?}
 use Rattle.kinds.proofs.TruthLaws.{stable}
 use Rattle.kinds.proofs.LowestLaws.{lowest-none}
 use Rattle.sheet.specs.Layout.{WellFormed, wellFormed?}
+use Rattle.sheet.specs.Table.{sheetLengths}
 use Rattle.maps.specs.Cells.{M, N}
 use Rattle.run.specs.Memory.{Memory}
 use Rattle.run.specs.Faults.{Clash, SomeFilled, SomeEmpty, faults}
@@ -27,7 +28,7 @@ use Rattle.run.specs.declared.State.{State}
 
 module _ (e : Edition) (n k : ℕ) (s : List ℕ) (st : State) (ws : List ℕ) (m : Memory) (out : List ℕ) where
   abbrev lengths : List (ℕ × ℕ)
-  lengths = (length s, sheetPlaces e) ∷ runLengths n k (length ws) (length out) (length (m .words)) (length (m .marks))
+  lengths = sheetLengths e s ++ runLengths n k (length ws) (length out) (length (m .words)) (length (m .marks))
 
   abbrev writes : List ℕ
   writes = writesOf n k (M e n k s) st ws

@@ -6,7 +6,7 @@
 use Prim.Native.Nat.{ℕ}
 use mathlib.Core.Path.{_≡_, refl, sym, ap, _∙_}
 use mathlib.Core.Bool.{Bool}
-use mathlib.Core.List.{List, [], _∷_}
+use mathlib.Core.List.{List, [], _∷_, _++_}
 use mathlib.Core.Logic.{_↔_}
 use mathlib.Core.Option.{none}
 use native.Mathlib.Omega.{arith}
@@ -22,7 +22,7 @@ use Rattle.kinds.proofs.TruthLaws.{stable}
 use Rattle.kinds.proofs.AnswerLaws.{some-lengths, answers-same}
 use Rattle.kinds.proofs.LowestLaws.{none-some, lowest-none}
 use Rattle.sheet.specs.Layout.{WellFormed, wellFormed?}
-use Rattle.sheet.specs.Table.{sheetTable}
+use Rattle.sheet.specs.Table.{sheetLengths, sheetTable}
 use Rattle.sheet.specs.Price.{Prices}
 use Rattle.sheet.specs.declared.Sums.{Sums}
 use Rattle.sheet.specs.declared.Priced.{Priced}
@@ -32,12 +32,12 @@ module _ (e : Edition) (n k : ℕ) (s : List ℕ) (others : List (ℕ × ℕ)) w
   pub sheet-ascending : Ascending (sheetTable e n k s others)
   sheet-ascending = ((omega arith, (omega arith, tt)), ((omega arith, tt), (tt, tt)))
 
-  pub sheet-sound : lowest (sheetTable e n k s others) ≡ none ↔ (Sized e n k × RightLengths ((length s, sheetPlaces e) ∷ others) × WellFormed e n k s)
+  pub sheet-sound : lowest (sheetTable e n k s others) ≡ none ↔ (Sized e n k × RightLengths (sheetLengths e s ++ others) × WellFormed e n k s)
   sheet-sound = (
     λ none-given.
         let none-applies = lowest-none (sheetTable e n k s others) .0 none-given in (
           stable (sized? e n k) (none-applies .0),
-          stable (rightLengths? ((length s, sheetPlaces e) ∷ others)) (none-applies .1 .0),
+          stable (rightLengths? (sheetLengths e s ++ others)) (none-applies .1 .0),
           stable (wellFormed? e n k s) (none-applies .1 .1 .0),
         ),
     λ (sized, right, formed).

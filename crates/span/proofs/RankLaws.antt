@@ -9,7 +9,7 @@
 --   rank-positions       the rank is the number of kept positions
 --   others-count         with the others they are all
 --   independent-all-kept, all-kept-independent    the scan keeps all exactly when the list is independent
---   all-kept-width       of numbers of k bits it keeps at most the first k one after the other
+--   all-kept-width       of numbers of k bits no more than the first k are all kept
 --   columns-sum          the columns of a map are sums where its values at 1, 2, 4, .. are
 --   bijection-rank       a linear bijection of k bits has rank k
 --   rank-same            of maps that agree neither has the greater rank

@@ -1,4 +1,4 @@
--- What it promises to take a number into a scan, or to ask whether it is a sum of those kept, and to scan a list.
+-- What is promised of taking a number into a scan, of asking whether it is a sum of those kept, and of scanning a list.
 --   room               how many numbers a scan takes
 --   Next vs v r        r is right for the number v after vs: a scan that holds both, whether v was kept, and its mask
 --   Takes scan v r     r is right for v after whatever the scan holds, as long as there is room; a scan without stays as it is

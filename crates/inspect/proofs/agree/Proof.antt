@@ -1,5 +1,5 @@
 -- `inspect::agree` meets its contract. The invariant: the first j columns agree, whichever side is shown.
-use Prim.Native.Nat.{ℕ, _+_, _-_, _/_, _%_, _^_, _<_}
+use Prim.Native.Nat.{ℕ, _+_, _-_, _/_, _%_, _^_}
 use mathlib.Core.Path.{_≡_, sym, ap, _∙_}
 use mathlib.Core.List.{List}
 use native.Mathlib.Omega.{arith}
@@ -13,23 +13,21 @@ use Rattle.sheet.specs.Sheet.{Side}
 use Rattle.maps.specs.Cells.{cellAt, cellOf}
 use Rattle.maps.specs.Opened.{Shows}
 use Rattle.maps.specs.declared.OpenSide.{OpenSide}
+use Rattle.inspect.specs.Inside.{AgreeAt, Agree}
 use Rattle.inspect.proofs.agree.Statement.{statement}
 use Rattle.inspect.proofs.agree.Tie as tie
 
-abbrev AgreeAt : ℕ → List ℕ → List ℕ → Side → ℕ → Type 0
-AgreeAt k C w R j = getD w j 0 ≡ cellOf k R (getD C j 0)
+record Agreeing (k : ℕ) (C w : List ℕ) (o : OpenSide) (j : ℕ) : Type 0 where
+  each : (m : ℕ) (R : Side) → Shows m k o R → Agree j k C w R
 
-record Agreeing (n k : ℕ) (C w : List ℕ) (o : OpenSide) (j : ℕ) : Type 0 where
-  each : (R : Side) → Shows n k o R → (i : ℕ) → i < j → AgreeAt k C w R i
+none : {k : ℕ} {C w : List ℕ} {o : OpenSide} → Agreeing k C w o 0
+none {k} {C} {w} = record { each = λ m R shows. below-none (AgreeAt k C w R) }
 
-none : {n k : ℕ} {C w : List ℕ} {o : OpenSide} → Agreeing n k C w o 0
-none {n} {k} {C} {w} = record { each = λ R shows. below-none (AgreeAt k C w R) }
-
-more : {n k : ℕ} {C w : List ℕ} {o : OpenSide} {j : ℕ} → Agreeing n k C w o j → ((R : Side) → Shows n k o R → AgreeAt k C w R j) → Agreeing n k C w o (j + 1)
-more {n} {k} {C} {w} {j = j} i next = record { each = λ R shows. below-more (AgreeAt k C w R) j (i .each R shows) (next R shows) }
+more : {k : ℕ} {C w : List ℕ} {o : OpenSide} {j : ℕ} → Agreeing k C w o j → ((m : ℕ) (R : Side) → Shows m k o R → AgreeAt k C w R j) → Agreeing k C w o (j + 1)
+more {k} {C} {w} {j = j} i next = record { each = λ m R shows. below-more (AgreeAt k C w R) j (i .each m R shows) (next m R shows) }
 
 abbrev Inv-loop : tie.InvT-loop
-Inv-loop n k columns cells read ports word-bits j₀ j = Agreeing n k columns cells read j
+Inv-loop n k columns cells read ports word-bits j₀ j = Agreeing k columns cells read j
 
 abbrev μ-loop : tie.MeasureT-loop
 μ-loop n k columns cells read ports word-bits j₀ j = n - j
@@ -78,13 +76,13 @@ module _ (c : tie.After-cell Inv-loop μ-loop) where
   abbrev place : ℕ
   place = getD (start .args .columns .now) (c .before .before .before .loop .j) 0
 
-  is-cell : (R : Side) → Shows (start .args .n) (start .args .k) (start .args .read) R → c .cell .result ≡ cellOf (start .args .k) R place
-  is-cell R shows = c .cell .ensures (start .args .n) (start .args .k) R shows ∙ ap (λ (x : ℕ). cellAt (start .args .k) R (place / x) (place % x)) (ports asked)
+  is-cell : (m : ℕ) (R : Side) → Shows m (start .args .k) (start .args .read) R → c .cell .result ≡ cellOf (start .args .k) R place
+  is-cell m R shows = c .cell .ensures m (start .args .k) R shows ∙ ap (λ (x : ℕ). cellAt (start .args .k) R (place / x) (place % x)) (ports asked)
 
 returns : tie.Need-returns Inv-loop μ-loop
-returns c R shows =
+returns c m R shows =
     let cell = c .before .before in
-    says-no (λ agree. c .if1 .taken (agree (cell .before .before .before .loop .j) (cell .before .before .loop-test .taken) ∙ sym (is-cell cell R shows)))
+    says-no (λ agree. c .if1 .taken (agree (cell .before .before .before .loop .j) (cell .before .before .loop-test .taken) ∙ sym (is-cell cell m R shows)))
 
 add-j : tie.Need-add-j Inv-loop μ-loop
 add-j c = search needs
@@ -93,10 +91,10 @@ loop-less : tie.Need-loop-less Inv-loop μ-loop
 loop-less c = search needs
 
 loop-again : tie.Need-loop-again Inv-loop μ-loop
-loop-again c = more (c .before .before .before .before .before .loop .inv) (λ R shows. c .if1 .left ∙ is-cell (c .before .before) R shows)
+loop-again c = more (c .before .before .before .before .before .loop .inv) (λ m R shows. c .if1 .left ∙ is-cell (c .before .before) m R shows)
 
 returns-2 : tie.Need-returns-2 Inv-loop μ-loop
-returns-2 c R shows = says-yes (λ j h. c .before .loop .inv .each R shows j (omega arith))
+returns-2 c m R shows = says-yes (λ j h. c .before .loop .inv .each m R shows j (omega arith))
 
 pub agree-spec : {M : Type 1} → statement M
 agree-spec =

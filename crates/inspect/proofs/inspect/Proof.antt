@@ -6,14 +6,14 @@ use mathlib.Core.List.{List, [], _∷_, _++_}
 use mathlib.Core.Option.{none}
 use native.Mathlib.Omega.{arith}
 use borrow.Author.Needs.{needs}
-use borrow.Author.Tests.{not-true, not-false, eqb-true, eq-eqb}
+use borrow.Author.Tests.{not-true, not-false}
 use Rattle.kinds.specs.Edition.{edition1, Sized, sized?}
 use Rattle.kinds.specs.Refusal.{said}
 use Rattle.kinds.specs.Lowest.{Reason, lowest}
 use Rattle.kinds.specs.Reasons.{RightLengths}
 use Rattle.kinds.specs.declared.Answer.the-variants.{Done}
 use Rattle.kinds.proofs.TruthLaws.{says-yes, denied}
-use Rattle.kinds.proofs.AnswerLaws.{said-before}
+use Rattle.kinds.proofs.AnswerLaws.{said-before, one-length}
 use Rattle.kinds.proofs.LowestLaws.{lowest-none, lowest-skip, lowest-append}
 use Rattle.order.specs.Order.{Order}
 use Rattle.order.specs.Table.{orderTable}
@@ -52,7 +52,7 @@ module _ (c : tie.After-is-done) where
   first = orderTable (sized? edition1 n k) n C (sheetLengths edition1 sheet)
 
   says : said (c .before .check-with-k .result) ≡ lowest first
-  says = c .before .check-with-k .ensures (sheetLengths edition1 sheet) (λ e. (eqb-true _ _ e, tt), λ right. eq-eqb _ _ (right .0))
+  says = c .before .check-with-k .ensures (sheetLengths edition1 sheet) (one-length _ _)
 
 -- the columns are an order, and the sheet has its places
 module _ (c : tie.After-is-done2) where

@@ -1,17 +1,17 @@
 -- `inspect::judge` meets its contract. It goes down the table from 6 to 9; past each test the reason does not apply.
 use Prim.Native.Nat.{ℕ, _-_}
 use mathlib.Core.Path.{_≡_, sym, ap, subst, _∙_}
-use mathlib.Core.Bool.{Bool, true}
+use mathlib.Core.Bool.{Bool, true, false}
 use mathlib.Core.List.{List}
 use mathlib.Core.Logic.{_↔_}
-use mathlib.Core.Option.{Option}
+use mathlib.Core.Option.{some}
 use borrow.Author.Needs.{needs}
 use borrow.Author.Tests.{not-true, not-false}
 use lib.ListN.{length, getD, take, drop}
 use Rattle.kinds.specs.Answers.{Says}
 use Rattle.kinds.specs.Edition.{edition1}
 use Rattle.kinds.specs.Lowest.{Reason, lowest}
-use Rattle.kinds.specs.declared.Refusal.{Refusal}
+use Rattle.kinds.specs.declared.Refusal.the-variants.{SharedCell, Differs}
 use Rattle.kinds.proofs.TruthLaws.{stable, denied}
 use Rattle.kinds.proofs.LowestLaws.{lowest-nil, lowest-take, lowest-skip}
 use Rattle.bits.proofs.ImageLaws.{columns-length}
@@ -26,7 +26,7 @@ use Rattle.inspect.proofs.ColumnLaws.{wiring-tells, cells-tell, columns
 use Rattle.inspect.proofs.judge.Statement.{statement}
 use Rattle.inspect.proofs.judge.Tie as tie
 
--- a test of the columns that are used tells what they tell
+-- of a padded list, a test of the part that is used decides what the columns decide
 part-says : {b : Bool} {A : Type 0} {r : List ℕ} (m : ℕ) (l : List ℕ) → m ≡ length l → r ≡ padded l → A ↔ Independent l → Says b (Independent (take (m - 0) r)) → Says b A
 part-says m l count whole tells says =
     let used = ap (take (m - 0)) whole ∙ padded-part openWidth l m count in
@@ -105,6 +105,9 @@ module _ (c : tie.After-agree) (s : List ℕ) where
   abbrev R : Side
   R = readSide edition1 n k s
 
+  abbrev table : List Reason
+  table = passTable edition1 n k C s
+
   module _ (write : Shows n k (start .args .write) W) (read : Shows n k (start .args .read) R) where
     says-6 : Says (wired .independent .result) (Invertible k W)
     says-6 =
@@ -115,63 +118,67 @@ module _ (c : tie.After-agree) (s : List ℕ) where
         part-says k (R .wiring) (sym (read .wiring)) (wired .before .before .before .before .wiring2 .ensures n k R read) (wiring-tells read)
         (c .before .before .before .before .before .independent2 .ensures)
 
-    cells : wired .before .before .before .columns .result ≡ padded (cellColumns n k W)
-    cells = wired .before .before .before .columns .ensures n k W write
-
     says-8 : Says (c .before .before .independent3 .result) (¬ ShareCell n (M edition1 n k s))
-    says-8 = part-says n (cellColumns n k W) (sym (columns-length n (M edition1 n k s))) cells (cells-tell write) (c .before .before .independent3 .ensures)
+    says-8 = part-says n (cellColumns n k W) (sym (columns-length n (M edition1 n k s))) (wired .before .before .before .columns .ensures n k W write) (cells-tell write) (c .before .before .independent3 .ensures)
 
     column : (j : ℕ) → getD (wired .before .before .before .columns .result) j 0 ≡ getD (cellColumns n k W) j 0
-    column j = ap (λ (l : List ℕ). getD l j 0) cells ∙ padded-at openWidth (cellColumns n k W) j
+    column j = ap (λ (l : List ℕ). getD l j 0) (wired .before .before .before .columns .ensures n k W write) ∙ padded-at openWidth (cellColumns n k W) j
 
     says-9 : Says (c .agree .result) (¬ Differ n (M edition1 n k s) (N edition1 n k s) (place C))
     says-9 =
-        let agrees = c .agree .ensures R read in
+        let agrees = c .agree .ensures n R read in
         let tells = columns-tell write read C in
         (λ e. tells .1 (λ j h. sym (column j) ∙ agrees .0 e j h), λ same. agrees .1 (λ j h. column j ∙ tells .0 same j h))
 
-    abbrev table : List Reason
-    table = passTable edition1 n k C s
+    past-6 : wired .independent .result ≡ true → lowest table ≡ lowest (drop 1 table)
+    past-6 ok = lowest-skip _ _ (λ wrong. wrong (says-6 .0 ok))
 
-    past-6 : {o : Option Refusal} → wired .independent .result ≡ true → lowest (drop 1 table) ≡ o → o ≡ lowest table
-    past-6 ok rest = sym (lowest-skip _ _ (λ wrong. wrong (says-6 .0 ok)) ∙ rest)
+    past-7 : c .before .before .before .before .before .independent2 .result ≡ true → lowest (drop 1 table) ≡ lowest (drop 2 table)
+    past-7 ok = lowest-skip _ _ (λ wrong. wrong (says-7 .0 ok))
 
-    past-7 : {o : Option Refusal} → c .before .before .before .before .before .independent2 .result ≡ true → lowest (drop 2 table) ≡ o → lowest (drop 1 table) ≡ o
-    past-7 ok rest = lowest-skip _ _ (λ wrong. wrong (says-7 .0 ok)) ∙ rest
+    past-8 : c .before .before .independent3 .result ≡ true → lowest (drop 2 table) ≡ lowest (drop 3 table)
+    past-8 ok = lowest-skip _ _ (says-8 .0 ok)
 
-    past-8 : {o : Option Refusal} → c .before .before .independent3 .result ≡ true → lowest (drop 3 table) ≡ o → lowest (drop 2 table) ≡ o
-    past-8 ok rest = lowest-skip _ _ (says-8 .0 ok) ∙ rest
+    gives-8 : c .before .before .independent3 .result ≡ false → lowest (drop 2 table) ≡ some SharedCell
+    gives-8 no-own = lowest-take _ _ (stable (shareCell? n (M edition1 n k s)) (denied says-8 no-own))
+
+    gives-9 : c .agree .result ≡ false → lowest (drop 3 table) ≡ some Differs
+    gives-9 differ = lowest-take _ _ (stable (differ? n (M edition1 n k s) (N edition1 n k s) (place C)) (denied says-9 differ))
 
 returns : tie.Need-returns
 returns c s write read = sym (lowest-take _ _ (denied (says-6 (c .before) s write read) (not-true _ (c .if1 .taken))))
 
 returns-2 : tie.Need-returns-2
 returns-2 c s write read =
-    let tested = c .before .before in
-    past-6 tested s write read (not-false _ (c .before .if1 .left)) (lowest-take _ _ (denied (says-7 tested s write read) (not-true _ (c .if2 .taken))))
+    let at = c .before .before in
+    sym
+    (past-6 at s write read (not-false _ (c .before .if1 .left))
+    ∙ lowest-take _ _ (denied (says-7 at s write read) (not-true _ (c .if2 .taken))))
 
 returns-3 : tie.Need-returns-3
 returns-3 c s write read =
-    let tested = c .before .before .before in
-    past-6 tested s write read (not-false _ (c .before .before .if1 .left))
-    (past-7 tested s write read (not-false _ (c .before .if2 .left))
-    (lowest-take _ _ (stable (shareCell? (n tested s) (M edition1 (n tested s) (k tested s) s)) (denied (says-8 tested s write read) (not-true _ (c .if3 .taken))))))
+    let at = c .before .before .before in
+    sym
+    (past-6 at s write read (not-false _ (c .before .before .if1 .left))
+    ∙ past-7 at s write read (not-false _ (c .before .if2 .left))
+    ∙ gives-8 at s write read (not-true _ (c .if3 .taken)))
+
+-- past 6 to 8
+past : (c : tie.Else3) (s : List ℕ) → let at = c .before .before .before in
+    Shows (n at s) (k at s) (start at s .args .write) (W at s) → Shows (n at s) (k at s) (start at s .args .read) (R at s) → lowest (table at s) ≡ lowest (drop 3 (table at s))
+past c s write read =
+    let at = c .before .before .before in
+    past-6 at s write read (not-false _ (c .before .before .if1 .left)) ∙ past-7 at s write read (not-false _ (c .before .if2 .left)) ∙ past-8 at s write read (not-false _ (c .if3 .left))
 
 returns-4 : tie.Need-returns-4
-returns-4 c s write read =
-    let tested = c .before .before .before .before in
-    past-6 tested s write read (not-false _ (c .before .before .before .if1 .left))
-    (past-7 tested s write read (not-false _ (c .before .before .if2 .left))
-    (past-8 tested s write read (not-false _ (c .before .if3 .left))
-    (lowest-take _ _ (stable (differ? (n tested s) (M edition1 (n tested s) (k tested s) s) (N edition1 (n tested s) (k tested s) s) (place (C tested s))) (denied (says-9 tested s write read) (not-true _ (c .if4 .taken)))))))
+returns-4 c s write read = sym (past (c .before) s write read ∙ gives-9 (c .before .before .before .before) s write read (not-true _ (c .if4 .taken)))
 
 returns-5 : tie.Need-returns-5
 returns-5 c s write read =
-    let tested = c .before .before .before .before in
-    past-6 tested s write read (not-false _ (c .before .before .before .if1 .left))
-    (past-7 tested s write read (not-false _ (c .before .before .if2 .left))
-    (past-8 tested s write read (not-false _ (c .before .if3 .left))
-    (lowest-skip _ _ (says-9 tested s write read .0 (not-false _ (c .if4 .left))) ∙ lowest-nil)))
+    sym
+    (past (c .before) s write read
+    ∙ lowest-skip _ _ (says-9 (c .before .before .before .before) s write read .0 (not-false _ (c .if4 .left)))
+    ∙ lowest-nil)
 
 pub judge-spec : {M : Type 1} → statement M
 judge-spec =

@@ -5,14 +5,14 @@ use mathlib.Core.Bool.{true}
 use mathlib.Core.List.{List}
 use native.Mathlib.Omega.{arith}
 use borrow.Author.Needs.{needs}
-use borrow.Author.Tests.{not-true, not-false, eqb-true, eq-eqb}
+use borrow.Author.Tests.{not-true, not-false}
 use lib.ListN.{length}
 use Rattle.kinds.specs.Edition.{edition1, SizedN, sizedN?}
 use Rattle.kinds.specs.Refusal.{said}
 use Rattle.kinds.specs.Lowest.{lowest}
 use Rattle.kinds.specs.declared.Answer.the-variants.{Done}
 use Rattle.kinds.proofs.TruthLaws.{denied}
-use Rattle.kinds.proofs.AnswerLaws.{refuses, does}
+use Rattle.kinds.proofs.AnswerLaws.{one-length, refuses, does}
 use Rattle.order.specs.Order.{Order}
 use Rattle.order.specs.Table.{inverseLengths, inverseTable}
 use Rattle.order.proofs.TableLaws.{order-sound}
@@ -39,7 +39,7 @@ module _ (c : tie.After-is-done) where
   out = start .args .out .now
 
   says : said (c .before .check-and-scan .result .answer) ≡ lowest (inverseTable edition1 n C out)
-  says = c .before .check-and-scan .ensures .answer (inverseLengths n out) (λ e. (eqb-true _ _ e, tt), λ right. eq-eqb _ _ (right .0))
+  says = c .before .check-and-scan .ensures .answer (inverseLengths n out) (one-length _ _)
 
   module _ (yes-done : c .is-done .result ≡ true) where
     done : c .before .check-and-scan .result .answer ≡ Done

@@ -5,13 +5,13 @@ use mathlib.Core.Bool.{true}
 use mathlib.Core.List.{List}
 use native.Mathlib.Omega.{arith}
 use borrow.Author.Needs.{needs}
-use borrow.Author.Tests.{not-true, not-false, eqb-true, eq-eqb}
+use borrow.Author.Tests.{not-true, not-false}
 use Rattle.kinds.specs.Edition.{edition1, sized?}
 use Rattle.kinds.specs.Refusal.{said}
 use Rattle.kinds.specs.Lowest.{lowest}
 use Rattle.kinds.specs.declared.Answer.the-variants.{Done}
 use Rattle.kinds.proofs.TruthLaws.{denied}
-use Rattle.kinds.proofs.AnswerLaws.{refuses, does}
+use Rattle.kinds.proofs.AnswerLaws.{one-length, refuses, does}
 use Rattle.order.proofs.TableLaws.{order-sound}
 use Rattle.sheet.specs.Table.{sheetLengths}
 use Rattle.plan.specs.Tool.{planTable, IsPlanned}
@@ -43,7 +43,7 @@ module _ (c : tie.After-is-done) where
   sheet = start .args .sheet .now
 
   says : said (c .before .check-with-k .result) ≡ lowest (planTable edition1 n k C sheet)
-  says = c .before .check-with-k .ensures (sheetLengths edition1 sheet) (λ e. (eqb-true _ _ e, tt), λ right. eq-eqb _ _ (right .0))
+  says = c .before .check-with-k .ensures (sheetLengths edition1 sheet) (one-length _ _)
 
   module _ (yes-done : c .is-done .result ≡ true) where
     done : c .before .check-with-k .result ≡ Done

@@ -7,7 +7,7 @@ use borrow.Author.Needs.{needs}
 use borrow.Author.Tests.{not-true, not-false}
 use native.Mathlib.Omega.{arith}
 use lib.ListN.{length}
-use Rattle.kinds.specs.Edition.{edition1, Sized, sheetPlaces}
+use Rattle.kinds.specs.Edition.{edition1, Sized}
 use Rattle.kinds.specs.Frame.{ticks}
 use Rattle.kinds.specs.Lowest.{Reason, lowest}
 use Rattle.kinds.specs.Reasons.{RightLengths}
@@ -16,7 +16,7 @@ use Rattle.kinds.proofs.TruthLaws.{denied}
 use Rattle.kinds.proofs.LowestLaws.{lowest-nil, lowest-take, lowest-skip, lowest-append, lowest-before, lowest-none}
 use Rattle.sheet.specs.Sheet.{writeSide, readSide}
 use Rattle.sheet.specs.Layout.{WellFormed}
-use Rattle.sheet.specs.Table.{sheetTable}
+use Rattle.sheet.specs.Table.{sheetLengths, sheetTable}
 use Rattle.sheet.proofs.TableLaws.{sheet-sound}
 use Rattle.maps.specs.Cells.{M, N}
 use Rattle.run.specs.Memory.{Memory}
@@ -81,7 +81,7 @@ module _ (c : tie.After-enum-told) where
   left : (t : List Reason) → lowest (checks at ++ t) ≡ lowest t
   left t = lowest-append (checks at) t (lowest-none (checks at) .0 none-given)
 
-  sound : Sized edition1 (n at) (k at) × RightLengths ((length (s at), sheetPlaces edition1) ∷ lengths at) × WellFormed edition1 (n at) (k at) (s at)
+  sound : Sized edition1 (n at) (k at) × RightLengths (sheetLengths edition1 (s at) ++ lengths at) × WellFormed edition1 (n at) (k at) (s at)
   sound = sheet-sound edition1 (n at) (k at) (s at) (lengths at) .0 none-given
 
 lengths-fit-requires : tie.Need-lengths-fit-requires

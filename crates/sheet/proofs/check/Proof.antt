@@ -2,7 +2,7 @@
 use Prim.Native.Nat.{ℕ}
 use mathlib.Core.Path.{_≡_, sym, subst, _∙_}
 use mathlib.Core.Bool.{true}
-use mathlib.Core.List.{List, _∷_}
+use mathlib.Core.List.{List, _++_}
 use native.Mathlib.Omega.{arith}
 use borrow.Author.Needs.{needs}
 use borrow.Author.Tests.{not-true, not-false}
@@ -17,7 +17,7 @@ use Rattle.kinds.proofs.TruthLaws.{denied}
 use Rattle.kinds.proofs.LowestLaws.{lowest-take, lowest-skip}
 use Rattle.sheet.specs.Sheet.{readPlaces}
 use Rattle.sheet.specs.Layout.{FormedSide, WellFormed}
-use Rattle.sheet.specs.Table.{sheetTable}
+use Rattle.sheet.specs.Table.{sheetLengths, sheetTable}
 use Rattle.sheet.proofs.PlaceLaws.{last-part}
 use Rattle.sheet.proofs.TableLaws.{sheet-sound}
 use Rattle.sheet.proofs.check.Statement.{statement}
@@ -40,7 +40,7 @@ module _ (c : tie.Start) where
   outside-sizes out others f = sym (lowest-take _ _ out)
 
   module _ (sized : Sized edition1 n k) where
-    wrong-length : ((others : List (ℕ × ℕ)) → Says (c .args .fits) (RightLengths others) → ¬ RightLengths ((length s, sheetPlaces edition1) ∷ others))
+    wrong-length : ((others : List (ℕ × ℕ)) → Says (c .args .fits) (RightLengths others) → ¬ RightLengths (sheetLengths edition1 s ++ others))
         → Answered (Refused Length)
     wrong-length wrong others f = sym (lowest-skip _ _ (λ out. out sized) ∙ lowest-take _ _ (wrong others f))
 

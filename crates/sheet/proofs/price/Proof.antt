@@ -12,7 +12,7 @@ use native.Mathlib.Omega.{arith}
 use lib.ListN.{length, getD, take, drop, length-drop}
 use lib.Pow.{pow-mono}
 use lib.Seq.{getD-take, getD-drop, length-take-le}
-use Rattle.kinds.specs.Edition.{edition1, Sized, sheetPlaces}
+use Rattle.kinds.specs.Edition.{edition1, Sized}
 use Rattle.kinds.specs.Frame.{tickBits}
 use Rattle.kinds.specs.Lowest.{lowest}
 use Rattle.kinds.specs.Reasons.{RightLengths}
@@ -21,7 +21,7 @@ use Rattle.kinds.proofs.TruthLaws.{says-yes}
 use Rattle.kinds.proofs.AnswerLaws.{refused-by, done-by}
 use Rattle.sheet.specs.Sheet.{countPlace, stagePlaces, stagesIn, sideOf, writePlaces, readPlaces, writeSide, readSide}
 use Rattle.sheet.specs.Layout.{FormedSide, WellFormed}
-use Rattle.sheet.specs.Table.{sheetTable}
+use Rattle.sheet.specs.Table.{sheetLengths, sheetTable}
 use Rattle.sheet.specs.Price.{total, xorGates, allStages}
 use Rattle.sheet.proofs.StageLaws.{formed-stage, controlled, total-append, total-const, gates-few}
 use Rattle.sheet.proofs.PlaceLaws.{unused-part, last-part}
@@ -85,7 +85,7 @@ module _ (c : tie.After-enum-told) where
   nothing : lowest (sheetTable edition1 n k s []) ≡ none
   nothing = said-lowest (c .before .before) ∙ ap said (c .enum-told .given .1)
 
-  sound : Sized edition1 n k × RightLengths ((length s, sheetPlaces edition1) ∷ []) × WellFormed edition1 n k s
+  sound : Sized edition1 n k × RightLengths (sheetLengths edition1 s) × WellFormed edition1 n k s
   sound = sheet-sound edition1 n k s [] .0 nothing
 
   places : length s ≡ 64

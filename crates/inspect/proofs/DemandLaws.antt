@@ -1,5 +1,5 @@
 -- The third demand.
---   demand-for        it holds of every edition with room on a side for as many stages as its greatest k
+--   demand-held       it holds of every edition with room on a side for as many stages as its greatest k
 --   third-demand      so it holds of 01's
 use Prim.Native.Nat.{ℕ, _≤_}
 use mathlib.Core.Path.{_≡_, refl}
@@ -28,8 +28,8 @@ module _ {e : Edition} {n k : ℕ} {C : List ℕ} (sized : Sized e n k) (order :
   planned-passed : {s : List ℕ} (v : Answer) → IsPlanned e n k C s → Inspects e n k C s v → v ≡ Done
   planned-passed v ok inspects = inspects .exact (whole (ok .places) (ok .formed)) .1 (ok .right)
 
-pub demand-for : (e : Edition) → e .most-k ≤ e .most-stages → ThirdDemand e
-demand-for e room n k C sized order = record {
+pub demand-held : (e : Edition) → e .most-k ≤ e .most-stages → ThirdDemand e
+demand-held e room n k C sized order = record {
   exactly = λ s v places formed inspects. Iff·trans (inspects .exact (whole sized order places formed)) (tool-exact sized places formed);
   gets = λ lent places.
       let ok = planned sized order room in
@@ -42,4 +42,4 @@ demand-for e room n k C sized order = record {
 }
 
 pub third-demand : ThirdDemand edition1
-third-demand = demand-for edition1 (omega arith)
+third-demand = demand-held edition1 (omega arith)

@@ -84,11 +84,20 @@ agree-requires : tie.Need-agree-requires
 agree-requires c κs = search needs
 
 module _ (c : tie.After-agree) (s : List ℕ) where
-  abbrev wired : tie.After-independent
-  wired = c .before .before .before .before .before .before .before .before
+  abbrev own : tie.After-independent3
+  own = c .before .before
+
+  abbrev read-wired : tie.After-independent2
+  read-wired = own .before .before .before
+
+  abbrev write-wired : tie.After-independent
+  write-wired = read-wired .before .before .before
+
+  abbrev listed : tie.After-columns
+  listed = write-wired .before .before .before
 
   abbrev start : tie.Start
-  start = wired .before .before .before .before .before .before .before
+  start = listed .before .before .before .before
 
   abbrev n : ℕ
   n = start .args .n
@@ -109,20 +118,17 @@ module _ (c : tie.After-agree) (s : List ℕ) where
   table = passTable edition1 n k C s
 
   module _ (write : Shows n k (start .args .write) W) (read : Shows n k (start .args .read) R) where
-    says-6 : Says (wired .independent .result) (Invertible k W)
-    says-6 =
-        part-says k (W .wiring) (sym (write .wiring)) (wired .before .before .before .before .before .wiring .ensures n k W write) (wiring-tells write) (wired .independent .ensures)
+    says-6 : Says (write-wired .independent .result) (Invertible k W)
+    says-6 = part-says k (W .wiring) (sym (write .wiring)) (listed .before .before .wiring .ensures n k W write) (wiring-tells write) (write-wired .independent .ensures)
 
-    says-7 : Says (c .before .before .before .before .before .independent2 .result) (Invertible k R)
-    says-7 =
-        part-says k (R .wiring) (sym (read .wiring)) (wired .before .before .before .before .wiring2 .ensures n k R read) (wiring-tells read)
-        (c .before .before .before .before .before .independent2 .ensures)
+    says-7 : Says (read-wired .independent2 .result) (Invertible k R)
+    says-7 = part-says k (R .wiring) (sym (read .wiring)) (listed .before .wiring2 .ensures n k R read) (wiring-tells read) (read-wired .independent2 .ensures)
 
-    says-8 : Says (c .before .before .independent3 .result) (¬ ShareCell n (M edition1 n k s))
-    says-8 = part-says n (cellColumns n k W) (sym (columns-length n (M edition1 n k s))) (wired .before .before .before .columns .ensures n k W write) (cells-tell write) (c .before .before .independent3 .ensures)
+    says-8 : Says (own .independent3 .result) (¬ ShareCell n (M edition1 n k s))
+    says-8 = part-says n (cellColumns n k W) (sym (columns-length n (M edition1 n k s))) (listed .columns .ensures n k W write) (cells-tell write) (own .independent3 .ensures)
 
-    column : (j : ℕ) → getD (wired .before .before .before .columns .result) j 0 ≡ getD (cellColumns n k W) j 0
-    column j = ap (λ (l : List ℕ). getD l j 0) (wired .before .before .before .columns .ensures n k W write) ∙ padded-at openWidth (cellColumns n k W) j
+    column : (j : ℕ) → getD (listed .columns .result) j 0 ≡ getD (cellColumns n k W) j 0
+    column j = ap (λ (l : List ℕ). getD l j 0) (listed .columns .ensures n k W write) ∙ padded-at openWidth (cellColumns n k W) j
 
     says-9 : Says (c .agree .result) (¬ Differ n (M edition1 n k s) (N edition1 n k s) (place C))
     says-9 =
@@ -130,16 +136,16 @@ module _ (c : tie.After-agree) (s : List ℕ) where
         let tells = columns-tell write read C in
         (λ e. tells .1 (λ j h. sym (column j) ∙ agrees .0 e j h), λ same. agrees .1 (λ j h. column j ∙ tells .0 same j h))
 
-    past-6 : wired .independent .result ≡ true → lowest table ≡ lowest (drop 1 table)
+    past-6 : write-wired .independent .result ≡ true → lowest table ≡ lowest (drop 1 table)
     past-6 ok = lowest-skip _ _ (λ wrong. wrong (says-6 .0 ok))
 
-    past-7 : c .before .before .before .before .before .independent2 .result ≡ true → lowest (drop 1 table) ≡ lowest (drop 2 table)
+    past-7 : read-wired .independent2 .result ≡ true → lowest (drop 1 table) ≡ lowest (drop 2 table)
     past-7 ok = lowest-skip _ _ (λ wrong. wrong (says-7 .0 ok))
 
-    past-8 : c .before .before .independent3 .result ≡ true → lowest (drop 2 table) ≡ lowest (drop 3 table)
+    past-8 : own .independent3 .result ≡ true → lowest (drop 2 table) ≡ lowest (drop 3 table)
     past-8 ok = lowest-skip _ _ (says-8 .0 ok)
 
-    gives-8 : c .before .before .independent3 .result ≡ false → lowest (drop 2 table) ≡ some SharedCell
+    gives-8 : own .independent3 .result ≡ false → lowest (drop 2 table) ≡ some SharedCell
     gives-8 no-own = lowest-take _ _ (stable (shareCell? n (M edition1 n k s)) (denied says-8 no-own))
 
     gives-9 : c .agree .result ≡ false → lowest (drop 3 table) ≡ some Differs

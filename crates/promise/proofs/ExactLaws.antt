@@ -1,4 +1,4 @@
--- The third demand: a sheet passes exactly when it is right.
+-- A sheet passes exactly when it is right.
 --   passes-right      a sheet that passes is right: the family of one pair of maps and one order
 --   right-passes      a sheet that is right passes
 --   exact             so the two are one thing

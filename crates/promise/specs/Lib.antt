@@ -1,3 +1,3 @@
--- What the run promises over time, and what the inspector judges.
+-- What the run promises over time, and when a sheet passes.
 pub mod Series
 pub mod Passes

@@ -4,6 +4,7 @@
 --   image-zero          the image of 0
 --   chosen-zero, chosen-xor    choosing by a bit makes nothing of 0, and passes through exclusive or
 --   image-xor           the image is linear
+--   zeros-at            zeros are 0 at each place, and beyond the last
 --   image-unit          the image of 2^j is column j
 --   chosen-lt           choosing by a bit keeps a bound
 --   image-lt            columns of m bits give images of m bits
@@ -30,7 +31,7 @@ use mathlib.Core.Logic.{_⊎_, inl, inr, ⊎-elim}
 use native.Mathlib.Omega.{arith}
 use native.Mathlib.Nat.{pow-suc, div-eq-of-lt}
 use lib.Bits.{bitXor, xor-zero-r, xor-lt, xor-self, xor-shr}
-use lib.ListN.{length, getD}
+use lib.ListN.{length, getD, replicate}
 use lib.Arith.{lt-one}
 use lib.Pow.{pow-pos, shr-shr, field, mod-mod-pow}
 use lib.Seq.{ext-getD}
@@ -81,6 +82,11 @@ image-xor (c ∷ cs) x y =
     ap₂ (λ (a b : ℕ). bitXor (chosen a c) b) (xor-low x y) (ap (image cs) (xor-half x y) ∙ image-xor cs (x / 2) (y / 2))
     ∙ ap (λ (a : ℕ). bitXor a (bitXor (image cs (x / 2)) (image cs (y / 2)))) (chosen-xor x y c)
     ∙ xor-swap (chosen (x % 2) c) (chosen (y % 2) c) (image cs (x / 2)) (image cs (y / 2))
+
+pub zeros-at : (m j : ℕ) → _≡_ {A = ℕ} (getD (replicate m 0) j 0) 0
+zeros-at zero j = refl
+zeros-at (suc m) zero = refl
+zeros-at (suc m) (suc j) = zeros-at m j
 
 pub image-unit : (cs : List ℕ) (j : ℕ) → image cs (2 ^ j) ≡ getD cs j 0
 unfolding image

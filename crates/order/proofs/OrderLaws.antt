@@ -18,10 +18,10 @@ use Rattle.bits.proofs.ImageLaws.{image-zero, image-xor, image-unit, image-lt, 
 use Rattle.span.specs.Maps.{Bijection}
 use Rattle.span.specs.Sums.{SumOf}
 use Rattle.span.specs.Held.{Holds}
-use Rattle.span.specs.Take.{Asks}
+use Rattle.span.specs.Tools.{Asks}
 use Rattle.span.specs.declared.Scan.{Scan}
 use Rattle.span.proofs.SumLaws.{independent-bijection}
-use Rattle.span.proofs.TakeLaws.{asked}
+use Rattle.span.proofs.ToolLaws.{asked}
 use Rattle.order.specs.Order.{place, Order, Undoes}
 
 pub order-bijection : {n : ℕ} {C : List ℕ} → Order n C → Bijection (place C) (2 ^ n)

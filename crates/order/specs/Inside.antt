@@ -14,7 +14,7 @@ use Rattle.kinds.specs.Edition.{edition1, sizedN?}
 use Rattle.kinds.specs.Answers.{Checks}
 use Rattle.kinds.specs.declared.Answer.the-variants.{Done}
 use Rattle.span.specs.Held.{Holds}
-use Rattle.span.specs.Take.{room}
+use Rattle.span.specs.Tools.{room}
 use Rattle.span.specs.declared.Scan.{Scan}
 use Rattle.order.specs.Order.{place, Order, Undoes}
 use Rattle.order.specs.Table.{columnTable, orderTable}

@@ -17,7 +17,6 @@ ghost use Rattle.plan.specs.Inside.{Plannable, Ordered, staged, listed, 
 use kinds::Answer;
 use kinds::Bank;
 use kinds::Tick;
-use span::Scan;
 
 // Room for the columns of an order, for its rows, and for the numbers of a side's stages, two each.
 const WIDTH: usize = 16;
@@ -104,16 +103,8 @@ fn masks_of(numbers: &[u16]) -> [u16; WIDTH]
     requires { ⌜ length (now numbers) ≤ openWidth ⌝ }
     ensures { λ r. ⌜ r ≡ padded (masksOf (now (numbers .entry))) ⌝ }
 {
-    let mut masks = [0; WIDTH];
-    let mut scan = Scan::new();
-    let mut i = 0;
-    while i < numbers.len() {
-        let taken = scan.take(numbers[i]);
-        masks[i] = taken.mask;
-        scan = taken.scan;
-        i += 1;
-    }
-    masks
+    let scanned = span::scan_all(numbers);
+    scanned.masks
 }
 
 // Number i was kept exactly when its mask is 2^i: the mask of any other selects numbers before it.

@@ -15,7 +15,8 @@ use native.Mathlib.Omega.{arith}
 use lib.ListN.{length, getD, take, set, replicate, length-take, length-replicate, length-map, List·getD-map, List·getD-eq-default}
 use lib.Seq.{length-take-le, take-all, take-suc, getD-take}
 use Rattle.sheet.specs.Sheet.{paddedTo}
-use Rattle.sheet.proofs.LayLaws.{zeros-at, padded-unique, padded-whole, padded-snoc}
+use Rattle.bits.proofs.ImageLaws.{zeros-at}
+use Rattle.sheet.proofs.LayLaws.{padded-unique, padded-whole, padded-snoc}
 
 pub record Filled (m : ℕ) (l numbers : List ℕ) (j : ℕ) : Type 0 where
   pub room : length l ≤ m

@@ -1,5 +1,4 @@
 -- A side that is laid out is read as it was written.
---   zeros-at          zeros are 0 at each place, and beyond the last
 --   padded-length     a list that is padded to m has m numbers
 --   padded-at         it shows the numbers of the list, and zeros after them
 --   padded-unique     a list of m numbers that shows the numbers of another is that one, padded
@@ -23,15 +22,11 @@ use native.Mathlib.Omega.{arith}
 use lib.ListN.{length, getD, set, take, drop, replicate, length-take, length-append, length-replicate, List·getD-append, List·getD-eq-default}
 use lib.Seq.{take-suc, take-all, take-at, drop-at, drop-drop, getD-at, getD-drop, getD-append-add, set-append-seam, ext-getD}
 use Rattle.kinds.specs.Edition.{Edition, Sized, sidePlaces, sheetPlaces}
+use Rattle.bits.proofs.ImageLaws.{zeros-at}
 use Rattle.sheet.specs.Sheet.{Stage, Side, addressPlaces, wiringPlaces, countPlace, stagePlaces, stageAt, stagesIn, stagesFrom, sideOf, writePlaces, readPlaces, writeSide, readSide, paddedTo, flat, laidOut, sheetOf}
 use Rattle.sheet.specs.Layout.{AllZero, FormedSide, WellFormed, Layable}
 use Rattle.sheet.proofs.StageLaws.{same-stages}
 use Rattle.sheet.proofs.PlaceLaws.{take-same}
-
-pub zeros-at : (m j : ℕ) → _≡_ {A = ℕ} (getD (replicate m 0) j 0) 0
-zeros-at zero j = refl
-zeros-at (suc m) zero = refl
-zeros-at (suc m) (suc j) = zeros-at m j
 
 module _ (m : ℕ) (l : List ℕ) where
   abbrev zeros : List ℕ

@@ -20,12 +20,12 @@ use native.Mathlib.Nat.{div-eq-of-lt}
 use native.Mathlib.Omega.{arith}
 use lib.Bits.{bitXor, xor-comm, xor-self, xor-zero-r, xor-shr, xor-mod, xor-shifted}
 use lib.Count.{leadingZeros, leading-of-zero}
-use lib.ListN.{length, getD, set, length-set, replicate, getD-replicate, List·getD-eq-default}
+use lib.ListN.{length, getD, set, length-set, replicate}
 use lib.Pow.{pow-lt, high, low, shl-shr}
 use lib.Seq.{getD-set-same, getD-set-other}
 use Rattle.bits.specs.Image.{image, AllBelow}
 use Rattle.bits.proofs.XorLaws.{xor-assoc, xor-cancel, xor-swap, xor-zero-eq}
-use Rattle.bits.proofs.ImageLaws.{below-append, below-one, image-nil, image-zero, image-xor, image-lt, image-prefix}
+use Rattle.bits.proofs.ImageLaws.{zeros-at, below-append, below-one, image-nil, image-zero, image-xor, image-lt, image-prefix}
 use Rattle.span.specs.Sums.{SumOf}
 use Rattle.span.specs.Scan.{members, keptAt, kept, IsKept, units, mask}
 use Rattle.span.specs.Held.{width, entry, rowOf, maskOf, Made, Echelon}
@@ -119,16 +119,10 @@ unfolding kept keptAt
 echelon-none = record {
   places = refl;
   narrow = λ j h. absurd (omega arith);
-  leading = λ z there. absurd (there (zeros z));
-  sound = λ z there. absurd (there (zeros z));
+  leading = λ z there. absurd (there (zeros-at width z));
+  sound = λ z there. absurd (there (zeros-at width z));
   complete = λ w s n. absurd (n (sym (s .sum) ∙ image-nil (s .selected)));
 }
-  where
-    zeros : (z : ℕ) → getD {A = ℕ} (replicate width 0) z 0 ≡ 0
-    zeros z = elim (decLt z width) [
-      | yes h ↦ getD-replicate width z 0 0 h
-      | no out ↦ List·getD-eq-default {A = ℕ} (replicate width 0) 0 {n = z} (omega arith)
-    ]
 
 -- v is made up by the mask m
 module _ {vs : List ℕ} (v : ℕ) {m : ℕ} (short : m < 2 ^ width) (a : Made vs (entry v m)) where

@@ -9,7 +9,6 @@
 --   rank-positions       the rank is the number of kept positions
 --   others-count         with the others they are all
 --   independent-all-kept, all-kept-independent    the scan keeps all exactly when the list is independent
---   all-kept-width       of numbers of k bits no more than the first k are all kept
 --   columns-sum          the columns of a map are sums where its values at 1, 2, 4, .. are
 --   bijection-rank       a linear bijection of k bits has rank k
 --   rank-same            of maps that agree neither has the greater rank
@@ -31,7 +30,7 @@ use Rattle.span.specs.Sums.{SumOf, Independent}
 use Rattle.span.specs.Scan.{members, keptAt, IsKept, kept, rank, others, sumBefore?, units, over}
 use Rattle.span.proofs.Counting.{injective-onto, bijection-same}
 use Rattle.span.proofs.SumLaws.{length-snoc, sum-image, sum-member, sum-xor, sum-left, sum-right, sum-map, span-trans, independent-le, independent-width, independent-injective, bijection-independent}
-use Rattle.span.proofs.ScanLaws.{members-at, kept-those, keptAt-new, keptAt-longer, kept-independent, keptAt-below, scanned-sum}
+use Rattle.span.proofs.ScanLaws.{members-at, kept-those, keptAt-new, kept-independent, keptAt-below, scanned-sum}
 use Rattle.span.proofs.MaskLaws.{image-over, over-below, dependent-at}
 
 pub kept-all-independent : (vs : List ℕ) → Independent (kept vs)
@@ -106,17 +105,14 @@ others-count vs = omega (arith, rank-positions vs, ap length (kept-those vs (len
 pub independent-all-kept : (vs : List ℕ) → Independent vs → (i : ℕ) → i < length vs → IsKept vs i
 independent-all-kept vs ind i h s = dependent-at vs i h s ind
 
-all-places : (vs : List ℕ) (i : ℕ) → ((l : ℕ) → l < i → IsKept vs l) → length (keptAt vs i) ≡ i
-unfolding keptAt
-all-places vs zero all = refl
-all-places vs (suc i) all =
-    ap length (keptAt-new vs i (all i (omega arith))) ∙ length-snoc (keptAt vs i) i ∙ ap suc (all-places vs i (λ l h. all l (omega arith)))
-
 pub all-kept-independent : (vs : List ℕ) → ((i : ℕ) → i < length vs → IsKept vs i) → Independent vs
-all-kept-independent vs all = rank-independent vs (rank-positions vs ∙ all-places vs (length vs) all)
-
-pub all-kept-width : (k : ℕ) (vs : List ℕ) → AllBelow (2 ^ k) vs → (i : ℕ) → i ≤ length vs → ((l : ℕ) → l < i → IsKept vs l) → i ≤ k
-all-kept-width k vs b i h all = omega (arith, all-places vs i all, keptAt-longer vs h, rank-positions vs, rank-width k vs b)
+unfolding keptAt
+all-kept-independent vs all = rank-independent vs (rank-positions vs ∙ all-places (length vs) (omega arith))
+  where
+    all-places : (i : ℕ) → i ≤ length vs → length (keptAt vs i) ≡ i
+    all-places zero h = refl
+    all-places (suc i) h =
+        ap length (keptAt-new vs i (all i h)) ∙ length-snoc (keptAt vs i) i ∙ ap suc (all-places i (omega arith))
 
 -- ---- maps, by their columns
 

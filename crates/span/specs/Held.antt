@@ -42,7 +42,6 @@ pub record Echelon (es vs : List ℕ) : Type 0 where
   pub complete : (w : ℕ) → SumOf (kept vs) w → w ≢ 0 → getD es (leadingZeros width w) 0 ≢ 0
 
 pub record Holds (scan : Scan) (vs : List ℕ) : Type 0 where
-  pub counted : scan .count ≡ length vs
   pub echelon : Echelon (scan .entries) vs
 
 pub record Reduces (es : List ℕ) (e left : ℕ) : Type 0 where

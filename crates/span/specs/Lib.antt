@@ -4,4 +4,4 @@ pub mod Sums
 pub mod Scan
 pub mod Rows
 pub mod Held
-pub mod Take
+pub mod Tools

@@ -1,21 +1,16 @@
 // The scan: numbers come one by one, and one that is no sum of those kept before it is kept.
+ghost use Prim.Native.Nat.{min};
+ghost use mathlib.Core.Path.{_≡_};
+ghost use mathlib.Core.List.{[]};
 ghost use Rattle.kinds.specs.Answers.{Says};
 ghost use Rattle.span.specs.Sums.{Independent};
 ghost use Rattle.span.specs.Held.{Holds, Reduces};
-ghost use Rattle.span.specs.Take.{Takes, Asks, Scans};
-ghost use mathlib.Core.List.{[]};
+ghost use Rattle.span.specs.Tools.{room, Asks, Scans};
 
 // What a scan has kept, in echelon form. An entry is a row in its upper 16 bits, and in its lower 16 the mask that says which
 // of the scanned numbers the row is the sum of. The row with z leading zeros stands at z; 0 is no entry.
 pub struct Scan {
     entries: [u32; 16],
-    count: u32,
-}
-
-pub struct Taken {
-    pub scan: Scan,
-    pub kept: bool,
-    pub mask: u16,
 }
 
 impl Scan {
@@ -23,38 +18,7 @@ impl Scan {
     pub fn new() -> Self
         ensures { λ r. ⌜ Holds r [] ⌝ }
     {
-        Scan {
-            entries: [0; 16],
-            count: 0,
-        }
-    }
-
-    // The scan with one number more, whether that number was kept, and its mask.
-    pub fn take(mut self, v: u16) -> Taken
-        ensures { λ r. ⌜ Takes self v r ⌝ }
-    {
-        let count = self.count;
-        let mut kept = false;
-        let mut mask = 0;
-        if count < 16 {
-            self.count = count + 1;
-            let entry = (v as u32) * 65536;
-            let left = reduce(&self.entries, entry);
-            if 65536 <= left {
-                let own = bits::two_to(count);
-                let z = u32::leading_zeros(left) as usize;
-                self.entries[z] = left ^ own;
-                kept = true;
-                mask = own as u16;
-            } else {
-                mask = left as u16;
-            }
-        }
-        Taken {
-            scan: self,
-            kept,
-            mask,
-        }
+        Scan { entries: [0; 16] }
     }
 
     // Which of the kept numbers have v as their sum; 0 where none have, and where v is 0.
@@ -72,30 +36,47 @@ impl Scan {
 
 pub struct Scanned {
     pub scan: Scan,
+    pub masks: [u16; 16],
     pub independent: bool,
 }
 
-// Takes the numbers in order, up to the first that is a sum of those before it.
+// Scans the numbers in order, of more than 16 the first 16. The masks say which kept numbers make up each; a kept one is its own.
 pub fn scan_all(numbers: &[u16]) -> Scanned
     ensures { λ r. ⌜ Scans (now (numbers .entry)) r ⌝ }
 {
-    let mut scan = Scan::new();
+    let mut entries = [0; 16];
+    let mut masks = [0; 16];
+    let mut independent = numbers.len() <= 16;
+    let end = at_most_16(numbers.len());
     let mut j = 0;
-    while j < numbers.len() {
-        let taken = scan.take(numbers[j]);
-        if !taken.kept {
-            return Scanned {
-                scan,
-                independent: false,
-            };
+    while j < end {
+        let entry = (numbers[j] as u32) * 65536;
+        let left = reduce(&entries, entry);
+        if 65536 <= left {
+            let own = bits::two_to(j as u32);
+            let z = u32::leading_zeros(left) as usize;
+            entries[z] = left ^ own;
+            masks[j] = own as u16;
+        } else {
+            masks[j] = left as u16;
+            independent = false;
         }
-        scan = taken.scan;
         j += 1;
     }
     Scanned {
-        scan,
-        independent: true,
+        scan: Scan { entries },
+        masks,
+        independent,
     }
+}
+
+fn at_most_16(length: usize) -> usize
+    ensures { λ r. ⌜ r ≡ min length room ⌝ }
+{
+    if length < 16 {
+        return length;
+    }
+    16
 }
 
 pub fn independent(numbers: &[u16]) -> bool

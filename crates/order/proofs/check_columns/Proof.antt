@@ -18,7 +18,7 @@ use Rattle.kinds.specs.declared.Refusal.the-variants.{Length}
 use Rattle.kinds.proofs.TruthLaws.{denied}
 use Rattle.kinds.proofs.AnswerLaws.{not-both}
 use Rattle.kinds.proofs.LowestLaws.{lowest-nil, lowest-take, lowest-skip}
-use Rattle.span.proofs.TakeLaws.{scans-all}
+use Rattle.span.proofs.ToolLaws.{scans-independent}
 use Rattle.order.specs.Table.{tooLarge, dependent, columnTable}
 use Rattle.order.specs.Inside.{ChecksColumns}
 use Rattle.order.specs.declared.Checked.{Checked}
@@ -103,7 +103,7 @@ returns-5 c =
     record {
       answer = λ others f.
           sym (past-3 scanned (not-false _ (c .before .before .if3 .left)) (lowest-skip _ _ (λ d. d independent) ∙ lowest-nil) .gives others f);
-      holds = λ d. scans-all (scanned .scan-all .ensures) says;
+      holds = λ d. scans-independent (scanned .scan-all .ensures) (λ j h. scanned .before .before .before .before .shared-slice-known .given j .fits) says;
     }
 
 pub check-columns-spec : {M : Type 1} → statement M

@@ -15,7 +15,7 @@ use lib.Seq.{getD-set-same, getD-set-other}
 use Rattle.bits.proofs.XorLaws.{xor-cancel}
 use Rattle.bits.proofs.ImageLaws.{image-zero, image-xor}
 use Rattle.bits.proofs.NextLaws.{trailing-lt, next-xor}
-use Rattle.span.specs.Take.{room}
+use Rattle.span.specs.Tools.{room}
 use Rattle.order.specs.Order.{place, Moved}
 use Rattle.order.specs.Inside.{Steps, Frames}
 use Rattle.order.proofs.OrderLaws.{order-bijection}

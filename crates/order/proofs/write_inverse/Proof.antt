@@ -9,7 +9,7 @@ use lib.ListN.{length, getD, set, length-set}
 use lib.Pow.{pow-lt}
 use lib.Seq.{getD-set-same, getD-set-other}
 use Rattle.span.specs.Held.{Holds}
-use Rattle.span.specs.Take.{Asks}
+use Rattle.span.specs.Tools.{Asks}
 use Rattle.span.specs.declared.Scan.{Scan}
 use Rattle.order.specs.Order.{Order}
 use Rattle.order.specs.Inside.{Few, UndoesHeld}

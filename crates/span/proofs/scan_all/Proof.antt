@@ -1,112 +1,213 @@
--- `span::scan_all` meets its contract. The invariant: the scan holds the numbers so far, and all of them were kept.
--- A number that is not kept shows that the numbers are dependent; a full scan keeps none, as there are no 17 independent numbers of 16 bits.
-use Prim.Native.Nat.{ℕ, _+_, _-_, _^_, _≤_, _<_}
-use mathlib.Core.Path.{_≡_, sym, ap, _∙_}
+-- `span::scan_all` meets its contract. The invariant: the entries hold the numbers so far, their masks stand, and the bool says whether there is room for all numbers and every number so far was kept.
+use Prim.Native.Nat.{ℕ, _+_, _-_, _*_, _^_, _≤_, _<_}
+use mathlib.Core.Path.{_≡_, refl, sym, _∙_}
 use mathlib.Core.Bool.{Bool, true, false}
-use mathlib.Core.List.{List, []}
+use mathlib.Core.List.{List}
 use mathlib.Core.Logic.{⊎-elim}
 use native.Mathlib.Decide.{decLt}
 use native.Mathlib.Omega.{arith}
 use borrow.Author.Count.{below-none, below-more}
 use borrow.Author.Needs.{needs}
-use borrow.Author.Tests.{not-true, not-false}
-use lib.ListN.{length, getD, take}
-use lib.Seq.{length-take-le}
+use borrow.Author.Tests.{leb-true, le-leb}
+use mir.Facts.{fits-widen}
+use lib.Count.{leadingZeros}
+use lib.Pow.{pow-lt}
+use lib.Seq.{getD-set-same, getD-set-other, getD-take, take-all}
+use lib.ListN.{length, getD, set, take, replicate, length-set, length-take, List·getD-eq-default}
 use Rattle.kinds.specs.Answers.{Says}
-use Rattle.kinds.proofs.TruthLaws.{false≢true, says-no, says-yes}
 use Rattle.bits.specs.Image.{AllBelow}
-use Rattle.span.specs.Sums.{Independent}
-use Rattle.span.specs.Scan.{SumBefore, IsKept}
-use Rattle.span.specs.Held.{width, Holds}
-use Rattle.span.specs.Take.{room, Takes, Scans}
-use Rattle.span.specs.declared.Scan.{Scan}
-use Rattle.span.specs.declared.Taken.{Taken}
-use Rattle.span.proofs.ScanLaws.{kept-or-sum}
-use Rattle.span.proofs.MaskLaws.{dependent-at}
-use Rattle.span.proofs.RankLaws.{all-kept-independent, all-kept-width}
-use Rattle.span.proofs.TakeLaws.{TakenAt, take-at}
+use Rattle.bits.proofs.ImageLaws.{zeros-at}
+use Rattle.span.specs.Scan.{IsKept, mask, masks}
+use Rattle.kinds.proofs.TruthLaws.{false≢true, says-no}
+use Rattle.span.specs.Held.{width, Echelon, Reduces}
+use Rattle.span.specs.Tools.{room, Scans}
+use Rattle.span.proofs.StepLaws.{Stepped, step-old, step-new}
+use Rattle.span.proofs.SumLaws.{independent-width}
+use Rattle.span.proofs.MaskLaws.{masks-at, masks-length}
+use Rattle.span.proofs.RankLaws.{independent-all-kept, all-kept-independent}
+use Rattle.span.proofs.HeldLaws.{row-place, echelon-none}
 use Rattle.span.proofs.scan_all.Statement.{statement}
 use Rattle.span.proofs.scan_all.Tie as tie
 
-record Scanning (vs : List ℕ) (scan : Scan) (j : ℕ) : Type 0 where
-  within : j ≤ length vs
-  holds : Holds scan (take j vs)
-  all : (i : ℕ) → i < j → IsKept vs i
+-- there is room for the numbers vs, and the first j were kept
+abbrev AllKept : List ℕ → ℕ → Type 0
+AllKept vs j = (length vs ≤ room) × ((i : ℕ) → i < j → IsKept (take room vs) i)
 
-start : {vs : List ℕ} {scan : Scan} → Holds scan [] → Scanning vs scan 0
-start {vs} h = record { within = omega arith; holds = h; all = below-none (IsKept vs) }
+record Scanning (vs es ms : List ℕ) (b : Bool) (j : ℕ) : Type 0 where
+  within : j ≤ length (take room vs)
+  echelon : Echelon es (take j (take room vs))
+  places : length ms ≡ room
+  masked : (i : ℕ) → i < j → getD ms i 0 ≡ mask (take room vs) i
+  rest : (i : ℕ) → j ≤ i → getD ms i 0 ≡ 0
+  says : Says b (AllKept vs j)
 
-module _ {vs : List ℕ} {scan : Scan} {j : ℕ} (i : Scanning vs scan j) where
-  count : scan .count ≡ j
-  count = i .holds .counted ∙ length-take-le j vs (i .within)
+start : (vs : List ℕ) {b : Bool} → Says b (length vs ≤ room) → Scanning vs (replicate width 0) (replicate room 0) b 0
+start vs says = record {
+  within = omega arith;
+  echelon = echelon-none;
+  places = refl;
+  masked = below-none (λ i. getD (replicate room 0) i 0 ≡ mask (take room vs) i);
+  rest = λ i h. zeros-at room i;
+  says = (λ e. (says .0 e, below-none (IsKept (take room vs))), λ all. says .1 (all .0));
+}
 
-  ends : {b : Bool} → Says b (Independent vs) → (j < length vs → SumBefore vs j) → Scans vs (record { scan = scan; independent = b })
-  ends says stops = record { says = says; holds = rw (← count) at (i .holds); all-kept = rw count (i .all); stops = rw count stops }
+module _ {vs es ms : List ℕ} {b : Bool} {j : ℕ} (i : Scanning vs es ms b j) where
+  abbrev first : List ℕ
+  first = take room vs
 
-  module _ {r : Taken} (h : j < length vs) (t : Takes scan (getD vs j 0) r) where
-    more : r .kept ≡ true → Scanning vs (r .scan) (j + 1)
-    more e = elim (decLt j room) [
-      | yes free ↦
-          let next : TakenAt vs j r = take-at h free (i .holds) t in
-          record { within = omega arith; holds = next .holds; all = below-more (IsKept vs) j (i .all) (next .keeps .0 e) }
-      | no full ↦ false≢true (sym (ap (λ r. r .kept) (t .full (omega (arith, count)))) ∙ e)
-    ]
+  module _ (inside : j < length first) where
+    small : j < length ms
+    small = omega (arith, i .places, length-take room vs)
 
-    sum : AllBelow (2 ^ width) vs → r .kept ≡ false → SumBefore vs j
-    sum narrow e = elim (decLt j room) [
-      | yes free ↦ take-at h free (i .holds) t .sums e
-      | no full ↦ ⊎-elim
-          (λ k. absurd (omega (arith, all-kept-width width vs narrow (j + 1) (omega arith) (below-more (IsKept vs) j (i .all) k))))
-          (λ s. s)
-          (kept-or-sum vs j)
-    ]
+    more : {es' : List ℕ} {k c : Bool} {m : ℕ} → Stepped first j es' k m → Says c (AllKept vs (j + 1)) → Scanning vs es' (set ms j m) c (j + 1)
+    more {m = m} step says = record {
+      within = omega arith;
+      echelon = step .echelon;
+      places = length-set ms j m ∙ i .places;
+      masked = below-more (λ l. getD (set ms j m) l 0 ≡ mask first l) j (λ l h. getD-set-other ms j l m 0 (omega arith) ∙ i .masked l h) (getD-set-same ms j m 0 small ∙ step .masked);
+      rest = λ l h. getD-set-other ms j l m 0 (omega arith) ∙ i .rest l (omega arith);
+      says = says;
+    }
 
-    stop : AllBelow (2 ^ width) vs → r .kept ≡ false → Scans vs (record { scan = scan; independent = false })
-    stop narrow e = ends (says-no (dependent-at vs j h (sum narrow e))) (λ _. sum narrow e)
+    keeps : {es' : List ℕ} {m : ℕ} → Stepped first j es' true m → Scanning vs es' (set ms j m) b (j + 1)
+    keeps step = more step (
+      λ e. let (few, all) = i .says .0 e in (few, below-more (IsKept first) j all (step .keeps .0 refl)),
+      λ (few, all). i .says .1 (few, λ l h. all l (omega arith)),
+    )
 
-  done : length vs ≤ j → Scans vs (record { scan = scan; independent = true })
-  done end = ends (says-yes (all-kept-independent vs (λ l h. i .all l (omega arith)))) (λ h. absurd (omega arith))
+    passes : {es' : List ℕ} {m : ℕ} → Stepped first j es' false m → Scanning vs es' (set ms j m) false (j + 1)
+    passes step = more step (says-no (λ (few, all). false≢true (step .keeps .1 (all j (omega arith)))))
+
+  done : AllBelow (2 ^ width) vs → length first ≤ j → Scans vs (record { scan = record { entries = es }; masks = ms; independent = b })
+  done narrow end = record {
+    holds = record { echelon = rw (take-all j first end) at (i .echelon) };
+    places = i .places;
+    masked = λ l. elim (decLt l (length first)) [
+      | yes h ↦ i .masked l (omega arith) ∙ sym (masks-at first l h)
+      | no out ↦ i .rest l (omega (arith, i .within)) ∙ sym (List·getD-eq-default (masks first) 0 (omega (arith, masks-length first)))
+    ];
+    says = (
+      λ e.
+          let (few, all) = i .says .0 e in
+          rw (take-all room vs few) at (all-kept-independent first (λ l h. all l (omega arith))),
+      λ independent.
+          let few = independent-width width vs narrow independent in
+          i .says .1 (few, λ l h. rw (take-all room vs few) (independent-all-kept vs independent l (omega (arith, i .within, length-take room vs)))),
+    );
+  }
 
 abbrev Inv-loop : tie.InvT-loop
-Inv-loop numbers scan₀ j₀ scan j = Scanning numbers scan j
+Inv-loop numbers entries₀ masks₀ independent₀ end j₀ entries masks independent j = Scanning numbers entries masks independent j
 
 abbrev μ-loop : tie.MeasureT-loop
-μ-loop numbers scan₀ j₀ scan j = length numbers - j
+μ-loop numbers entries₀ masks₀ independent₀ end j₀ entries masks independent j = end - j
 
-new-requires : tie.Need-new-requires Inv-loop μ-loop
-new-requires c κs = search needs
+at-most-16-requires : tie.Need-at-most-16-requires Inv-loop μ-loop
+at-most-16-requires c κs = search needs
 
 loop-holds : tie.Need-loop-holds Inv-loop μ-loop
-loop-holds c = start (c .new .ensures)
+loop-holds c = start _ (leb-true _ _, le-leb _ _)
 
-mul-take : tie.Need-mul-take Inv-loop μ-loop
-mul-take c = search needs
+mul-entry : tie.Need-mul-entry Inv-loop μ-loop
+mul-entry c = search needs
 
-shared-slice-read-take : tie.Need-shared-slice-read-take Inv-loop μ-loop
-shared-slice-read-take c = search needs
+shared-slice-read-entry : tie.Need-shared-slice-read-entry Inv-loop μ-loop
+shared-slice-read-entry c = omega (arith, c .before .loop-test .taken, c .before .before .before .at-most-16 .ensures)
 
-take-requires : tie.Need-take-requires Inv-loop μ-loop
-take-requires c κs = search needs
+cast-entry : tie.Need-cast-entry Inv-loop μ-loop
+cast-entry c = fits-widen tt (c .shared-slice-known2 .given _)
 
-returns : tie.Need-returns Inv-loop μ-loop
-returns c =
-    let inv = c .before .before .before .before .before .loop .inv in
-    stop inv (c .before .before .before .before .loop-test .taken) (c .before .before .take .ensures)
-    (λ l h. c .before .before .before .shared-slice-known2 .given l .fits) (not-true _ (c .if1 .taken))
+mul-entry-2 : tie.Need-mul-entry-2 Inv-loop μ-loop
+mul-entry-2 c = omega (arith, c .shared-slice-known2 .given (c .before .before .loop .j) .fits)
+
+reduce-requires : tie.Need-reduce-requires Inv-loop μ-loop
+reduce-requires c κs = search needs
+
+module _ (c : tie.After-reduce Inv-loop μ-loop) where
+  abbrev numbers : List ℕ
+  numbers = c .before .before .before .before .before .before .before .args .numbers .now
+
+  abbrev j : ℕ
+  j = c .before .before .before .before .loop .j
+
+  abbrev es : List ℕ
+  es = c .before .before .before .before .loop .entries
+
+  low : j < room
+  low = omega (arith, c .before .before .before .loop-test .taken, c .before .before .before .before .before .at-most-16 .ensures)
+
+  inside : j < length (take room numbers)
+  inside = omega (arith, length-take room numbers, c .before .before .before .loop-test .taken, c .before .before .before .before .before .at-most-16 .ensures)
+
+  number : getD (take room numbers) j 0 ≡ getD numbers j 0
+  number = getD-take room numbers j 0 low
+
+  fits : getD (take room numbers) j 0 < 2 ^ width
+  fits = rw number (c .before .before .shared-slice-known2 .given j .fits)
+
+  reduced : Reduces es (getD (take room numbers) j 0 * 2 ^ width) (c .reduce .result)
+  reduced = rw number (c .reduce .ensures)
+
+cast-two-to : tie.Need-cast-two-to Inv-loop μ-loop
+cast-two-to c = omega (arith, low (c .before))
+
+two-to-requires : tie.Need-two-to-requires Inv-loop μ-loop
+two-to-requires c κs = search needs
+
+place : (c : tie.After-two-to Inv-loop μ-loop) → leadingZeros (width + width) (c .before .before .reduce .result) < width
+place c = row-place (omega (arith, c .before .before .reduce .ok)) (c .before .if1 .taken)
+
+own : (c : tie.After-two-to Inv-loop μ-loop) → c .two-to .result ≡ 2 ^ c .before .before .before .before .before .before .loop .j
+own c = c .two-to .ensures .fits (omega (arith, low (c .before .before)))
+
+cast-z : tie.Need-cast-z Inv-loop μ-loop
+cast-z c = omega (arith, place c)
+
+mul-entries : tie.Need-mul-entries Inv-loop μ-loop
+mul-entries c = omega (arith, place c)
+
+array-write-entries : tie.Need-array-write-entries Inv-loop μ-loop
+array-write-entries c = place c
+
+cast-masks : tie.Need-cast-masks Inv-loop μ-loop
+cast-masks c = omega (arith, own c, pow-lt {i = c .before .before .before .before .before .before .loop .j} {j = width} (low (c .before .before)))
+
+mul-masks : tie.Need-mul-masks Inv-loop μ-loop
+mul-masks c = omega (arith, low (c .before .before))
+
+array-write-masks : tie.Need-array-write-masks Inv-loop μ-loop
+array-write-masks c = low (c .before .before)
+
+cast-masks-2 : tie.Need-cast-masks-2 Inv-loop μ-loop
+cast-masks-2 c = search needs
+
+mul-masks-2 : tie.Need-mul-masks-2 Inv-loop μ-loop
+mul-masks-2 c = omega (arith, low (c .before))
+
+array-write-masks-2 : tie.Need-array-write-masks-2 Inv-loop μ-loop
+array-write-masks-2 c = low (c .before)
 
 add-j : tie.Need-add-j Inv-loop μ-loop
-add-j c = search needs
+add-j c = omega (arith, low (c .before))
 
 loop-less : tie.Need-loop-less Inv-loop μ-loop
-loop-less c = search needs
+loop-less c = omega (arith, c .before .before .before .before .loop-test .taken)
 
 loop-again : tie.Need-loop-again Inv-loop μ-loop
 loop-again c =
-    let inv = c .before .before .before .before .before .before .loop .inv in
-    more inv (c .before .before .before .before .before .loop-test .taken) (c .before .before .before .take .ensures) (not-false _ (c .before .if1 .left))
+    let at = c .before in
+    let inv = at .before .before .before .before .loop .inv in
+    ⊎-elim (λ w.
+    rw (w .2, w .3, w .4)
+    (keeps inv (inside at)
+    (step-new (take room (numbers at)) (j at) (inside at) (fits at) (inv .echelon) (reduced at) (omega (arith, at .reduce .ok)) (w .0 .taken) (low at) (w .1 .ensures .fits (omega (arith, low at))))))
+    (λ w.
+    rw (w .1, w .2, w .3)
+    (passes inv (inside at) (step-old (take room (numbers at)) (j at) (inside at) (fits at) (inv .echelon) (reduced at) (w .0 .left))))
+    (c .if1 .came)
 
-returns-2 : tie.Need-returns-2 Inv-loop μ-loop
-returns-2 c = done (c .before .loop .inv) (c .loop-test .left)
+returns : tie.Need-returns Inv-loop μ-loop
+returns c = done (c .before .loop .inv) (λ l h. c .before .before .before .shared-slice-known .given l .fits) (omega (arith, c .loop-test .left, c .before .before .at-most-16 .ensures, length-take room (c .before .before .before .before .args .numbers .now)))
 
 pub scan-all-spec : {M : Type 1} → statement M
 scan-all-spec =
@@ -114,13 +215,25 @@ scan-all-spec =
     (tie.spec
     Inv-loop
     μ-loop
-    new-requires
+    at-most-16-requires
     loop-holds
-    mul-take
-    shared-slice-read-take
-    take-requires
-    returns
+    mul-entry
+    shared-slice-read-entry
+    cast-entry
+    mul-entry-2
+    reduce-requires
+    cast-two-to
+    two-to-requires
+    cast-z
+    mul-entries
+    array-write-entries
+    cast-masks
+    mul-masks
+    array-write-masks
+    cast-masks-2
+    mul-masks-2
+    array-write-masks-2
     add-j
     loop-less
     loop-again
-    returns-2)
+    returns)

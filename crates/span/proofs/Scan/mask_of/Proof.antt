@@ -5,7 +5,7 @@ use mathlib.Core.Path.{refl}
 use mathlib.Core.List.{List}
 use lib.Bits.{xor-shifted}
 use Rattle.span.specs.Held.{width, entry, Made, Holds, Reduces}
-use Rattle.span.specs.Take.{Asks}
+use Rattle.span.specs.Tools.{Asks}
 use Rattle.span.specs.declared.Scan.{Scan}
 use Rattle.span.proofs.HeldLaws.{row-left, no-sum, made-up, mask-old}
 use Rattle.span.proofs.Scan.mask_of.Statement.{statement}

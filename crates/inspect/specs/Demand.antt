@@ -1,5 +1,5 @@
 -- The third demand, of any answers that meet the contracts of the inspector and the planner.
---   DemandFor e n k C     the demand of one order C; `lent` is a sheet that the planner is lent, with the places of one, and s what it holds afterwards
+--   DemandFor e n k C     the demand of one order C. Where `lent` stands for a sheet that the planner is lent, it has its places, and s is what it holds afterwards
 --   ThirdDemand e         "The inspector passes a well-formed sheet exactly when the run is right over every series of frames and blank ticks and every content of the words;
 --                         every invertible order gets a planned sheet that passes; no passed sheet has fewer read stages."
 use Prim.Native.Nat.{ℕ, _≤_}

@@ -15,10 +15,10 @@ use lib.Pow.{pow-lt}
 use lib.Seq.{getD-set-same, getD-set-other, getD-take, take-all}
 use lib.ListN.{length, getD, set, take, replicate, length-set, length-take, List·getD-eq-default}
 use Rattle.kinds.specs.Answers.{Says}
+use Rattle.kinds.proofs.TruthLaws.{false≢true, says-no}
 use Rattle.bits.specs.Image.{AllBelow}
 use Rattle.bits.proofs.ImageLaws.{zeros-at}
 use Rattle.span.specs.Scan.{IsKept, mask, masks}
-use Rattle.kinds.proofs.TruthLaws.{false≢true, says-no}
 use Rattle.span.specs.Held.{width, Echelon, Reduces}
 use Rattle.span.specs.Tools.{room, Scans}
 use Rattle.span.proofs.StepLaws.{Stepped, step-old, step-new}

@@ -3,6 +3,7 @@
 --   lowest-nil      an empty table refuses nothing
 --   lowest-take     a first reason that applies is given
 --   lowest-skip     a first reason that doesn't leaves the rest to decide
+--   lowest-alike    tables whose first reasons give the same refusal, and apply alike, and which go on alike, give the same
 --   lowest-append   a table after another decides where that one gives nothing
 --   lowest-before   what a table gives, it gives with another after it
 --   lowest-none     nothing is given exactly when no reason applies
@@ -39,6 +40,12 @@ lowest-take r rs = take (r .decided) (r .refusal) (lowest rs)
 pub lowest-skip : (r : Reason) (rs : List Reason) → ¬ r .applies → lowest (r ∷ rs) ≡ lowest rs
 unfolding lowest
 lowest-skip r rs = skip (r .decided) (r .refusal) (lowest rs)
+
+pub lowest-alike : (r q : Reason) (rs qs : List Reason) → r .refusal ≡ q .refusal → r .applies ↔ q .applies → lowest rs ≡ lowest qs → lowest (r ∷ rs) ≡ lowest (q ∷ qs)
+lowest-alike r q rs qs given same rest = elim (r .decided) [
+  | yes a ↦ lowest-take r rs a ∙ ap some given ∙ sym (lowest-take q qs (same .0 a))
+  | no n ↦ lowest-skip r rs n ∙ rest ∙ sym (lowest-skip q qs (λ b. n (same .1 b)))
+]
 
 pub none-some : {x : Refusal} {A : Type 0} → none ≡ some x → A
 none-some e = absurd (let z : _≡_ {A = ℕ} 0 1 = cc in omega arith)

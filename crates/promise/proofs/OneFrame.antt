@@ -20,7 +20,7 @@ use lib.Dec.{ltb}
 use lib.ListN.{length, getD}
 use lib.Pow.{pow-pos, suc-ones, split}
 use Rattle.kinds.specs.Frame.{tickBits, ticks, tickOf, portOf, wordAt, inOrder}
-use Rattle.kinds.proofs.FrameLaws.{frame-whole, tick-lt, port-lt, in-order-length, in-order-at}
+use Rattle.kinds.proofs.FrameLaws.{frame-whole, tick-lt, port-lt, word-lt, in-order-length, in-order-at}
 use Rattle.promise.specs.Series.{callAt, Series, wordsBefore, wordIn, CompletedIn}
 use Rattle.promise.proofs.SeriesLaws.{before-none, before-more, word-comes}
 
@@ -77,13 +77,13 @@ module _ (n k : ℕ) (u : ℕ → ℕ) where
         ∙ came-at c p tick port
         ∙ ap u (split i k)
 
-  pub one-frame-series : ((i : ℕ) → u i < 2 ^ 32) → Series k one-frame
-  one-frame-series small j h = elim (decLt j T) [
-    | yes l ↦ record {
-      count = inl (came j l);
-      words = λ p b. rw (came-at j p l (omega (arith, came j l))) (small (wordAt k j p));
-    }
-    | no late ↦
-        let blank : callAt one-frame j ≡ [] = ap (callAt one-frame) (omega arith) ∙ blank-call (j - T) (omega (arith, one-frame-length)) in
-        rw blank (record { count = inr refl; words = λ p b. absurd (omega arith) })
-  ]
+    pub one-frame-series : ((i : ℕ) → i < 2 ^ n → u i < 2 ^ 32) → Series k one-frame
+    one-frame-series small j h = elim (decLt j T) [
+      | yes l ↦ record {
+        count = inl (came j l);
+        words = λ p b. let port : p < 2 ^ k = omega (arith, came j l) in rw (came-at j p l port) (small (wordAt k j p) (word-lt within l port));
+      }
+      | no late ↦
+          let blank : callAt one-frame j ≡ [] = ap (callAt one-frame) (omega arith) ∙ blank-call (j - T) (omega (arith, one-frame-length)) in
+          rw blank (record { count = inr refl; words = λ p b. absurd (omega arith) })
+    ]

@@ -1,4 +1,6 @@
 -- The run over one frame and then as many blank calls, from a fresh stand, where f and g are the maps for every frame.
+--   fresh n k           a fresh stand, over zeros
+--   is-fresh            it is one
 --   right-fits          where every run with the maps f and g is right for the order P, f and g fit P
 use Prim.Native.Nat.{ℕ, zero, suc, _+_, _-_, _*_, _^_, _<_, _≤_}
 use mathlib.Core.Path.{_≡_, refl, sym, ap, ap₂, _∙_}
@@ -104,10 +106,10 @@ zeros n = replicate (2 ^ (n + 1)) 0
 zeros-length : (n : ℕ) → length (zeros n) ≡ 2 ^ (n + 1)
 zeros-length n = length-replicate (2 ^ (n + 1)) 0
 
-abbrev fresh : ℕ → ℕ → Stand
+abbrev pub fresh : ℕ → ℕ → Stand
 fresh n k = record { state = coming (ticks n k) 0; memory = record { words = zeros n; marks = zeros n } }
 
-is-fresh : (n k : ℕ) → Fresh n k (fresh n k)
+pub is-fresh : (n k : ℕ) → Fresh n k (fresh n k)
 is-fresh n k = fresh-any (record { words = zeros n; marks = zeros n }) (zeros-length n) (λ j h. rw (all-zero j h) (omega arith)) (zeros-length n) all-zero
   where
     all-zero : AllZero (zeros n)
@@ -291,4 +293,4 @@ module _ (n k : ℕ) (P f g : ℕ → ℕ) (within : k ≤ n) (into : (i : ℕ) 
   }
     where
       over : (i : ℕ) → RightOver n k (λ F. P) (outcomeOf (called n k (λ F. f) (λ F. g) (one-frame n k (only i))) (fresh n k)) (one-frame n k (only i))
-      over i = right (fresh n k) (one-frame n k (only i)) (is-fresh n k) (one-frame-series n k (only i) (only-small i))
+      over i = right (fresh n k) (one-frame n k (only i)) (is-fresh n k) (one-frame-series n k (only i) within (λ j h. only-small i j))

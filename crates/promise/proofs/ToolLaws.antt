@@ -3,6 +3,7 @@
 --   tool-possible       from fresh every state met is possible
 --   tool-runs           with a sheet that keeps the layout and a series of calls, the tool's run from fresh is the sheet's: 1, 2, 5 and 10 are never given
 --   tool-outcome        and so is what comes of each call
+--   tool-call           a call that is made where the sheet's run stands comes out as its own
 --   tool-right          so where the sheet is right for an order, what the tool answers is
 --   tool-exact          and only there: the sheet is right exactly when the run as a tool is
 use Prim.Native.Nat.{ℕ, zero, suc, _+_, _^_, _<_, _≤_}
@@ -133,6 +134,9 @@ module _ (e : Edition) (n k : ℕ) (s : List ℕ) (S : List (List ℕ)) (out : �
 
     pub tool-outcome : (j : ℕ) → j < length S → outcomeOf tool x j ≡ outcomeOn e n k s x S j
     tool-outcome j h = outcome-by j h (tool-runs j (omega arith))
+
+    pub tool-call : (j : ℕ) → j < length S → tool j (standingOn e n k s x S j) ≡ outcomeOn e n k s x S j
+    tool-call j h = ap (tool j) (sym (tool-runs j (omega arith))) ∙ tool-outcome j h
 
     pub tool-right : {C : List ℕ} → Right e n k C s → RightOver n k (λ F. place C) (outcomeOf tool x) S
     tool-right right = over-same tool-outcome (right .over x S fresh series)

@@ -1,0 +1,3 @@
+-- Laws.
+pub mod PlaceLaws
+pub mod BesidesLaws

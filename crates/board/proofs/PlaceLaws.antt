@@ -1,0 +1,28 @@
+-- Three places.
+--   three-places    three places are their contents
+--   three-set       all three set
+--   two-set         all but the first set
+--   first-set       the first set
+use Prim.Native.Nat.{ℕ, _≤_}
+use mathlib.Core.Path.{_≡_, refl}
+use mathlib.Core.List.{List, [], _∷_, _++_}
+use native.Mathlib.Omega.{arith}
+use lib.ListN.{length, getD, take, drop, set}
+use Rattle.run.specs.Memory.{onto}
+
+pub three-places : (l : List ℕ) → length l ≡ 3 → getD l 0 0 ∷ getD l 1 0 ∷ getD l 2 0 ∷ [] ≡ l
+three-places [] h = absurd (omega arith)
+three-places (a ∷ []) h = absurd (omega arith)
+three-places (a ∷ b ∷ []) h = absurd (omega arith)
+three-places (a ∷ b ∷ c ∷ []) h = refl
+three-places (a ∷ b ∷ c ∷ d ∷ l) h = absurd (omega arith)
+
+pub three-set : (l : List ℕ) {x y z : ℕ} → length l ≡ 3 → set (set (set l 0 x) 1 y) 2 z ≡ x ∷ y ∷ z ∷ []
+three-set l {x} {y} {z} h = rw (← three-places l h) refl
+
+pub two-set : (l : List ℕ) (x y : ℕ) → length l ≡ 3 → set (set l 1 x) 2 y ≡ take 1 l ++ onto (x ∷ y ∷ []) (drop 1 l)
+two-set l x y h = rw (← three-places l h) refl
+
+pub first-set : (l : List ℕ) {x : ℕ} → 1 ≤ length l → set l 0 x ≡ x ∷ drop 1 l
+first-set [] h = absurd (omega arith)
+first-set (a ∷ l) h = refl

@@ -1,0 +1,56 @@
+-- `board::board_price` meets its contract.
+use mathlib.Core.Path.{refl}
+use native.Mathlib.Omega.{arith}
+use borrow.Author.Needs.{needs}
+use Rattle.board.proofs.BesidesLaws.{besides-right, besides-wrong}
+use Rattle.board.proofs.board_price.Statement.{statement}
+use Rattle.board.proofs.board_price.Tie as tie
+
+wrong-length-requires : tie.Need-wrong-length-requires
+wrong-length-requires c κs = search needs
+
+returns : tie.Need-returns
+returns c = record { lengths = besides-wrong (λ right. c .before .if1 .taken (right .0)) (c .wrong-length .ensures) refl }
+
+price-requires : tie.Need-price-requires
+price-requires c κs = search needs
+
+enum-known-priced : tie.Need-enum-known-priced
+enum-known-priced c = search needs
+
+put-three-requires : tie.Need-put-three-requires
+put-three-requires c κs = search needs
+
+enum-known-priced-2 : tie.Need-enum-known-priced-2
+enum-known-priced-2 c = search needs
+
+number-requires : tie.Need-number-requires
+number-requires c κs = search needs
+
+same-length : tie.Need-same-length
+same-length c = search needs
+
+returns-2 : tie.Need-returns-2
+returns-2 c = record {
+  lengths = besides-right (omega (arith, c .before .before .before .before .before .before .before .before .if1 .left), tt) (c .before .before .before .before .before .before .before .price .result, c .before .before .before .before .before .before .before .price .ensures, rw (c .before .before .before .before .before .priced .given .1) refl, rw (c .before .before .before .before .before .priced .given .1) (c .before .before .put-three .ensures));
+}
+
+returns-3 : tie.Need-returns-3
+returns-3 c = record {
+  lengths = besides-right (omega (arith, c .before .before .before .before .before .if1 .left), tt) (c .before .before .before .before .price .result, c .before .before .before .before .price .ensures, rw (c .before .before .priced2 .given .1) (c .number .ensures), rw (c .before .before .priced2 .given .1) refl);
+}
+
+pub board-price-spec : {M : Type 1} → statement M
+board-price-spec =
+    tie.close
+    (tie.spec
+    wrong-length-requires
+    returns
+    price-requires
+    enum-known-priced
+    put-three-requires
+    enum-known-priced-2
+    number-requires
+    same-length
+    returns-2
+    returns-3)

@@ -1,0 +1,76 @@
+-- `board::report` meets its contract.
+use Prim.Native.Nat.{ℕ, _≤_}
+use mathlib.Core.Path.{_≡_, refl, sym}
+use mathlib.Core.Bool.{Bool, true, false, cond}
+use mathlib.Core.List.{List, _∷_}
+use native.Mathlib.Omega.{arith}
+use borrow.Author.Needs.{needs}
+use lib.ListN.{length, drop, set}
+use mir.Val.{boolByte}
+use Rattle.board.proofs.PlaceLaws.{three-places, first-set}
+use Rattle.board.proofs.report.Statement.{statement}
+use Rattle.board.proofs.report.Tie as tie
+
+enum-known-ticked : tie.Need-enum-known-ticked
+enum-known-ticked c = search needs
+
+told : (l : List ℕ) (handed : Bool) → 1 ≤ length l → set l 0 (boolByte handed) ≡ cond handed 1 0 ∷ drop 1 l
+told l true h = first-set l h
+told l false h = first-set l h
+
+put-three-requires : tie.Need-put-three-requires
+put-three-requires c κs = search needs
+
+cast-said : tie.Need-cast-said
+cast-said c = search needs
+
+slice-write-said : tie.Need-slice-write-said
+slice-write-said c = search needs
+
+enum-known-ticked-2 : tie.Need-enum-known-ticked-2
+enum-known-ticked-2 c = search needs
+
+name-ports-requires : tie.Need-name-ports-requires
+name-ports-requires c κs = search needs
+
+number-requires : tie.Need-number-requires
+number-requires c κs = search needs
+
+same-length : tie.Need-same-length
+same-length c = search needs
+
+same-length-2 : tie.Need-same-length-2
+same-length-2 c = search needs
+
+returns : tie.Need-returns
+returns c =
+    rw (c .before .before .before .before .before .ticked .given .1) (record {
+      number = refl;
+      state = c .before .before .put-three .ensures;
+      said = told (c .before .before .before .before .before .before .before .before .before .args .said .now) (c .before .before .before .before .before .ticked .given .0 .1 .0) (omega (arith, c .before .before .before .before .before .before .before .before .before .pre .1));
+    })
+
+same-length-3 : tie.Need-same-length-3
+same-length-3 c = search needs
+
+returns-2 : tie.Need-returns-2
+returns-2 c =
+    rw (c .before .before .before .before .before .before .ticked2 .given .1)
+    (record { number = c .number .ensures; state = sym (three-places (c .before .before .before .before .before .before .before .before .before .before .args .state .now) (c .before .before .before .before .before .before .before .before .before .before .pre .0)); said = c .before .before .before .name-ports .ensures })
+
+pub report-spec : {M : Type 1} → statement M
+report-spec =
+    tie.close
+    (tie.spec
+    enum-known-ticked
+    put-three-requires
+    cast-said
+    slice-write-said
+    enum-known-ticked-2
+    name-ports-requires
+    number-requires
+    same-length
+    same-length-2
+    returns
+    same-length-3
+    returns-2)

@@ -1,0 +1,3 @@
+-- The tools under C names.
+pub mod Names
+pub mod Inside

@@ -1,0 +1,63 @@
+-- The tools under C names: each answers, as a number of 01's table, what the tool answers.
+--   Numbers T r            r is the number of an answer that meets T, the tool's contract
+--   Besides e n k l r T K  a tool of C that is lent buffers beside those of the board's tool, of the lengths l. Where these are right, T holds: it does as the board's tool. Where one is wrong, that is
+--                          2 as well: r is the lowest of 1 and 2 that applies, and K holds, everything lent is as it came
+--   stateIn l              the state in the places l: a, h, r
+--   placesOf st            the places of the state st
+--   saidAfter a l          the places l after the run answered a: the first is 1 if a tick was handed out, else 0; the next two are the ports of 11 and 13. The others keep their content
+--   Reports a st st' l l' r     what C is told of the run's answer a: its number r, the state st', and the places l'
+--   TicksAs e n k s st st' ws m m' out out' l l' r     the run: st, l and what else is lent become st', l' and so on
+--   sumsAfter a l          the places l after the price tool answered a: the three sums
+--   PricesAs e n k s l l' r     the price
+use Prim.Native.Nat.{ℕ}
+use mathlib.Core.Path.{_≡_}
+use mathlib.Core.Bool.{cond}
+use mathlib.Core.List.{List, [], _∷_, _++_}
+use lib.ListN.{length, getD, take, drop}
+use Rattle.kinds.specs.Edition.{Edition, sized?}
+use Rattle.kinds.specs.Lowest.{lowest}
+use Rattle.kinds.specs.Reasons.{RightLengths, outside, wrongLength}
+use Rattle.kinds.specs.Refusal.{said, given, valuesOf}
+use Rattle.kinds.specs.declared.Answer.{Answer}
+use Rattle.sheet.specs.Price.{Prices, refusalOf as refusalOfPrice, sumsOf}
+use Rattle.sheet.specs.declared.Priced.{Priced}
+use Rattle.sheet.specs.declared.Priced.the-variants.{Costs, Refused as Unpriced}
+use Rattle.run.specs.Memory.{Memory, onto}
+use Rattle.run.specs.Tool.{refusalOf, stateAfter, Ticks}
+use Rattle.run.specs.declared.State.{State}
+use Rattle.run.specs.declared.Ticked.{Ticked}
+use Rattle.run.specs.declared.Ticked.the-variants.{Done, Refused}
+
+abbrev pub Numbers : (Answer → Type 0) → ℕ → Type 0
+Numbers T r = (a : Answer) × T a × (r ≡ given (said a))
+
+pub record Besides (e : Edition) (n k : ℕ) (l : List (ℕ × ℕ)) (r : ℕ) (T K : Type 0) : Type 0 where
+  pub right : RightLengths l → T
+  pub wrong : ¬ RightLengths l → (r ≡ given (lowest (outside (sized? e n k) ∷ wrongLength l ∷ []))) × K
+
+abbrev pub stateIn : List ℕ → State
+stateIn l = record { a = getD l 0 0; h = getD l 1 0; r = getD l 2 0 }
+
+abbrev pub placesOf : State → List ℕ
+placesOf st = st .a ∷ st .h ∷ st .r ∷ []
+
+abbrev pub saidAfter : Ticked → List ℕ → List ℕ
+saidAfter (Done st handed) l = cond handed 1 0 ∷ drop 1 l
+saidAfter (Refused x) l = take 1 l ++ onto (valuesOf x) (drop 1 l)
+
+pub record Reports (a : Ticked) (st st' l l' : List ℕ) (r : ℕ) : Type 0 where
+  pub number : r ≡ given (refusalOf a)
+  pub state : st' ≡ placesOf (stateAfter (stateIn st) a)
+  pub said : l' ≡ saidAfter a l
+
+pub record TicksAs (e : Edition) (n k : ℕ) (s st st' ws : List ℕ) (m m' : Memory) (out out' l l' : List ℕ) (r : ℕ) : Type 0 where
+  pub lengths : Besides e n k ((length st, 3) ∷ (length l, 3) ∷ []) r
+      ((a : Ticked) × Ticks e n k s (stateIn st) ws m out a m' out' × Reports a st st' l l' r)
+      ((st' ≡ st) × (m' ≡ m) × (out' ≡ out) × (l' ≡ l))
+
+abbrev pub sumsAfter : Priced → List ℕ → List ℕ
+sumsAfter (Costs p) l = sumsOf (Costs p)
+sumsAfter (Unpriced x) l = l
+
+pub record PricesAs (e : Edition) (n k : ℕ) (s l l' : List ℕ) (r : ℕ) : Type 0 where
+  pub lengths : Besides e n k ((length l, 3) ∷ []) r ((a : Priced) × Prices e n k s a × (r ≡ given (refusalOfPrice a)) × (l' ≡ sumsAfter a l)) (l' ≡ l)

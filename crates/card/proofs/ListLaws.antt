@@ -1,0 +1,67 @@
+-- The order on a card, as the listing goes on with it.
+--   order-on-card     what the table of the order that was read gives, the card's gives
+--   listed-read       the text for the order that was read is the card's
+--   one-set           one place that is set
+use Prim.Native.Char.{code}
+use Prim.Native.Nat.{ℕ, _-_, _^_, _<_, _≤_}
+use mathlib.Core.Path.{_≡_, refl, sym, ap, ap₂, _∙_}
+use mathlib.Core.List.{List, [], _∷_, _++_}
+use mathlib.Core.Option.{none}
+use native.Mathlib.Omega.{arith}
+use lib.ListN.{length, take, set, length-append}
+use Rattle.kinds.specs.Edition.{edition1, sized?}
+use Rattle.kinds.specs.Lowest.{lowest}
+use Rattle.kinds.specs.Reasons.{RightLengths}
+use Rattle.kinds.specs.Refusal.{said}
+use Rattle.kinds.specs.declared.Answer.the-variants.{Done}
+use Rattle.kinds.proofs.LowestLaws.{lowest-none, lowest-skip, lowest-alike}
+use Rattle.text.specs.Decimal.{codes, decimal}
+use Rattle.text.proofs.DecimalLaws.{decimal-length}
+use Rattle.order.specs.Table.{orderTable}
+use Rattle.run.specs.Memory.{onto}
+use Rattle.sheet.proofs.LayLaws.{padded-part}
+use Rattle.card.specs.Card.{mostColumns, nOn, kOn, columnsOn, unreadable, Reads, cardTable}
+use Rattle.card.specs.Listing.{spaced, line, listing}
+use Rattle.card.specs.Tool.{listed, printed, Prints}
+use Rattle.card.specs.Inside.{Writes}
+use Rattle.card.specs.declared.Reading.{Reading}
+use Rattle.card.proofs.WriteLaws.{writes-onto}
+
+abbrev read : Reading → List ℕ
+read R = take (R .count - 0) (R .columns)
+
+module _ {b : List ℕ} {R : Reading} (reads : Reads b R) where
+  columns-read : read R ≡ columnsOn b
+  columns-read = rw (reads .columns) (padded-part mostColumns (columnsOn b) (R .count) (reads .count))
+
+  module _ (readable : R .answer ≡ Done) (others : List (ℕ × ℕ)) where
+    pub order-on-card : lowest (orderTable (sized? edition1 (R .n) (R .k)) (R .n) (read R) others) ≡ lowest (cardTable edition1 b others)
+    order-on-card =
+        rw (reads .n, reads .k, columns-read) refl
+        ∙ sym (lowest-skip (unreadable b) _ (lowest-none (unreadable b ∷ []) .0 (sym (reads .answer) ∙ ap said readable) .0))
+
+  pub listed-read : listing (R .n) (R .k) (read R) ≡ listed b
+  listed-read = rw (reads .n, reads .k, columns-read) refl
+
+-- right lengths, or none lent: the table gives the same
+module _ (b : List ℕ) (others : List (ℕ × ℕ)) (right : RightLengths others) where
+  pub lengths-right : lowest (cardTable edition1 b others) ≡ lowest (cardTable edition1 b [])
+  lengths-right =
+      lowest-alike _ _ _ _ refl (λ a. a, λ a. a)
+      (lowest-alike _ _ _ _ refl (λ a. a, λ a. a)
+      (lowest-alike _ _ _ _ refl (λ wrong r. wrong (r .0, right), λ wrong r. wrong (r .0, tt)) refl))
+
+pub refusal-short : (x : ℕ) → x < 2 ^ 32 → length (line (codes "refused") (x ∷ [])) ≤ 19
+unfolding codes spaced
+refusal-short x small = omega (arith, decimal-length 10 x (omega arith) (omega (arith, small)), length-append (decimal x ++ []) (code "\n" ∷ []), length-append (decimal x) [])
+
+-- a text that is written first of all, into a buffer that is as it came
+pub prints-by : {b t t' x w : List ℕ} {r : ℕ} → Writes w 0 t t' r → w ≡ printed edition1 b → t ≡ x → length w ≤ length x → Prints edition1 b x t' r
+prints-by {t = t} {w = w} {r = r} writes same kept fits =
+    let end : r ≡ length w = omega (arith, writes .next) in
+    record { length-of = end ∙ ap length same; text = writes-onto writes (omega (arith, ap length kept, fits)) ∙ ap₂ onto same kept }
+
+pub one-set : (l : List ℕ) {x : ℕ} → length l ≡ 1 → set l 0 x ≡ x ∷ []
+one-set [] h = absurd (omega arith)
+one-set (a ∷ []) h = refl
+one-set (a ∷ c ∷ l) h = absurd (omega arith)

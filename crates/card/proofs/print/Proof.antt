@@ -1,0 +1,122 @@
+-- `card::print` meets its contract.
+use Prim.Native.Nat.{ℕ, _≤_}
+use mathlib.Core.Path.{_≡_, refl, sym, ap, _∙_}
+use mathlib.Core.List.{List, [], _∷_}
+use mathlib.Core.Option.{Option, none}
+use native.Mathlib.Omega.{arith}
+use borrow.Author.Needs.{needs}
+use mir.Facts.{fits-widen}
+use lib.ListN.{length, getD, take}
+use Rattle.kinds.specs.Edition.{edition1}
+use Rattle.kinds.specs.Lowest.{lowest}
+use Rattle.kinds.specs.Refusal.{said, numberOf}
+use Rattle.kinds.specs.declared.Refusal.{Refusal}
+use Rattle.text.specs.Decimal.{codes}
+use Rattle.run.specs.Memory.{onto}
+use Rattle.card.specs.Card.{cardTable}
+use Rattle.card.specs.Listing.{line, refusalLine}
+use Rattle.card.specs.Tool.{room, listLengths, textFor}
+use Rattle.card.proofs.ListLaws.{lengths-right, refusal-short, prints-by}
+use Rattle.card.proofs.WriteLaws.{writes-onto}
+use Rattle.card.proofs.print.Statement.{statement}
+use Rattle.card.proofs.print.Tie as tie
+
+slice-aggregate-list : tie.Need-slice-aggregate-list
+slice-aggregate-list c = search needs
+
+module _ (c : tie.After-list) where
+  abbrev start : tie.Start
+  start = c .before .before .before .before
+
+  abbrev b : List ℕ
+  b = start .args .card .now
+
+  abbrev t : List ℕ
+  t = start .args .text .now
+
+  whole : length t ≡ room
+  whole = omega (arith, slice-aggregate-list (c .before))
+
+  said-by : lowest (cardTable edition1 b []) ≡ said (c .list .result)
+  said-by = sym (lengths-right b (listLengths t (0 ∷ [])) (omega (arith, whole), (refl, tt))) ∙ sym (c .list .ensures .lowest-of)
+
+list-requires : tie.Need-list-requires
+list-requires c κs = search needs
+
+enum-known-answer : tie.Need-enum-known-answer
+enum-known-answer c = search needs
+
+enum-told : tie.Need-enum-told
+enum-told c = search needs
+
+sub-end : tie.Need-sub-end
+sub-end c = search needs
+
+part-end-start : tie.Need-part-end-start
+part-end-start c = search needs
+
+part-end-end : tie.Need-part-end-end
+part-end-end c = search needs
+
+shared-slice-read-result : tie.Need-shared-slice-read-result
+shared-slice-read-result c = search needs
+
+cast-result : tie.Need-cast-result
+cast-result c = fits-widen tt (c .shared-slice-known2 .given _)
+
+returns : tie.Need-returns
+returns c =
+    let made = c .before .before .before .before .before .before in
+    let (text, size) = made .list .ensures .done (ap said (c .before .before .before .enum-told .given .1)) in
+    let none : lowest (cardTable edition1 (b made) []) ≡ none = said-by made ∙ ap said (c .before .before .before .enum-told .given .1) in
+    record {
+      length-of = ap (λ (l : List ℕ). getD (take 1 l) 0 0) size ∙ ap (λ (o : Option Refusal). length (textFor o (b made))) (sym none);
+      text = text ∙ ap (λ (o : Option Refusal). onto (textFor o (b made)) (t made)) (sym none);
+    }
+
+number-requires : tie.Need-number-requires
+number-requires c κs = search needs
+
+slice-aggregate-put-line : tie.Need-slice-aggregate-put-line
+slice-aggregate-put-line c = search needs
+
+slice-aggregate-put-line-2 : tie.Need-slice-aggregate-put-line-2
+slice-aggregate-put-line-2 c = search needs
+
+put-line-requires : tie.Need-put-line-requires
+unfolding codes
+put-line-requires c κs =
+    omega (arith, refusal-short (c .before .before .before .number .result) (omega (arith, c .before .before .before .number .ok)), whole (c .before .before .before .before .before .before .before .before), c .before .before .before .before .before .before .before .before .list .kept .1 .0)
+
+returns-2 : tie.Need-returns-2
+unfolding codes
+returns-2 c =
+    let made = c .before .before .before .before .before .before .before .before .before in
+    let number = c .before .before .before .before .number in
+    let refused = c .before .before .before .before .before .before .answer .given .1 in
+    let given = said-by made ∙ ap said refused in
+    prints-by
+    (c .put-line .ensures)
+    (ap (λ (m : ℕ). line (codes "refused") (m ∷ [])) (number .ensures) ∙ ap (λ (o : Option Refusal). textFor o (b made)) (sym given))
+    (made .list .ensures .refused _ (ap said refused) .0)
+    (omega (arith, refusal-short (number .result) (omega (arith, number .ok)), whole made))
+
+pub print-spec : {M : Type 1} → statement M
+print-spec =
+    tie.close
+    (tie.spec
+    slice-aggregate-list
+    list-requires
+    enum-known-answer
+    enum-told
+    sub-end
+    part-end-start
+    part-end-end
+    shared-slice-read-result
+    cast-result
+    returns
+    number-requires
+    slice-aggregate-put-line
+    slice-aggregate-put-line-2
+    put-line-requires
+    returns-2)

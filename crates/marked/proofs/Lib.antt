@@ -1,0 +1,2 @@
+-- 01's marked cases hold.
+pub mod Marked

@@ -1,0 +1,34 @@
+-- Bytes that are a row of numbers, with the numbers, and bytes that are none: a leading zero, 65536, a sign, a letter; two spaces, a tab, a space before the
+-- first number or after the last; no newline, a space for it, a second one, one between two numbers, one alone. No bytes at all are the row of no numbers.
+use Prim.Native.Nat.{ℕ}
+use Prim.Native.String.{String}
+use mathlib.Core.Path.{_≡_, refl}
+use mathlib.Core.List.{List, [], _∷_, map}
+use mathlib.Core.Option.{Option, none, some}
+use Rattle.text.specs.Decimal.{codes, decimalIn}
+use Rattle.text.specs.Numbers.{row, Row}
+use Rattle.text.proofs.RowLaws.{row?}
+
+abbrev numbers : {b : List ℕ} → Dec ((ns : List ℕ) × Row b ns) → Option (List ℕ)
+numbers (yes (ns, r)) = some ns
+numbers (no n) = none
+
+abbrev read : String → Option (List ℕ)
+read s = numbers (row? (codes s))
+
+taken : map read ("3 1 4 2 1\n" ∷ "65535 0 10 9\n" ∷ "0\n" ∷ "" ∷ [])
+    ≡ some (3 ∷ 1 ∷ 4 ∷ 2 ∷ 1 ∷ []) ∷ some (65535 ∷ 0 ∷ 10 ∷ 9 ∷ []) ∷ some (0 ∷ []) ∷ some [] ∷ []
+unfolding codes row?
+taken = refl
+
+printed : map row ((3 ∷ 1 ∷ 4 ∷ 2 ∷ 1 ∷ []) ∷ (65535 ∷ 0 ∷ 10 ∷ 9 ∷ []) ∷ []) ≡ map codes ("3 1 4 2 1\n" ∷ "65535 0 10 9\n" ∷ [])
+unfolding codes decimalIn row
+printed = refl
+
+abbrev bad : List String
+bad =
+    "3 01\n" ∷ "00\n" ∷ "65536\n" ∷ "100000\n" ∷ "-1\n" ∷ "1a\n" ∷ "3  1\n" ∷ "3\t1\n" ∷ " 3 1\n" ∷ "3 1 \n" ∷ "3 1" ∷ "3 1 " ∷ "3 1\n\n" ∷ "3\n1\n" ∷ "\n" ∷ []
+
+refused : map read bad ≡ map (λ s. none) bad
+unfolding codes row?
+refused = refl

@@ -1,0 +1,3 @@
+-- Numbers as text.
+pub mod Decimal
+pub mod Numbers

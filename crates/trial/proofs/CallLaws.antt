@@ -1,0 +1,99 @@
+-- The calls of a trial.
+--   part-comes      tick c of the words is call c, and there are 2^t such
+--   call-goes       a call that is made where the run stands goes to where it stands next, and what the run hands out is then in the out buffer
+--   tick-leaves     in blank call c tick c of the words in lamp order leaves
+--   handed-lamp     so all that is handed out is the words in lamp order
+use Prim.Native.Nat.{ℕ, suc, _+_, _-_, _*_, _^_, _<_, _≤_}
+use mathlib.Core.Path.{_≡_, sym, ap, ap₂, _∙_}
+use mathlib.Core.List.{List}
+use native.Mathlib.Omega.{arith}
+use lib.ListN.{length, getD, take, drop, length-take, length-drop}
+use lib.Pow.{pow-pos, pow-mono, split}
+use lib.Seq.{ext-getD, getD-take, getD-drop}
+use Rattle.kinds.specs.Edition.{edition1}
+use Rattle.kinds.specs.Frame.{tickBits, ticks, portOf, inOrder}
+use Rattle.kinds.proofs.FrameLaws.{tick-lt, port-lt, word-lt, in-order-length, in-order-at, in-order-is}
+use Rattle.run.specs.Memory.{Memory, onto}
+use Rattle.run.specs.Tool.{stateAfter, ComesOf, Ticks}
+use Rattle.run.specs.declared.State.{State}
+use Rattle.run.specs.declared.Ticked.{Ticked}
+use Rattle.promise.specs.Series.{callAt, Series, wordIn, frame, tickIn, standing, outcomeOn, ticked}
+use Rattle.promise.proofs.OneFrame.{one-frame-length, came, came-at, completed, word-in, one-frame-series}
+use Rattle.promise.proofs.OneRun.{fresh, is-fresh}
+use Rattle.promise.proofs.ToolLaws.{tool-call}
+use Rattle.promise.proofs.RightLaws.{right-tick}
+use Rattle.trial.specs.Trial.{wordAtPlace, lampOrder}
+use Rattle.trial.specs.Inside.{trialCalls, leavesIn, handedOut, Here, Runnable}
+use Rattle.trial.proofs.LampLaws.{lamp-moved}
+
+module _ {n k : ℕ} {s : List ℕ} (run : Runnable n k s) where
+  abbrev T : ℕ
+  T = ticks n k
+
+  abbrev S : List (List ℕ)
+  S = trialCalls n k
+
+  within : k ≤ n
+  within = omega (arith, run .sized .most)
+
+  whole : length S ≡ 2 * T
+  whole = one-frame-length n k (λ i. i)
+
+  series : Series k S
+  series = one-frame-series n k (λ i. i) within (λ i h. omega (arith, pow-mono {i = n} {j = 10} (run .sized .frame .most)))
+
+  pub part-comes : {f : List ℕ} {at ports c : ℕ} → f ≡ inOrder (2 ^ n) (λ i. i) → at ≡ c * 2 ^ k → ports ≡ 2 ^ k → c < T → take (at + ports - at) (drop at f) ≡ callAt S c
+  part-comes {f} {at} {ports} {c} words from wide h =
+      let fits : (p : ℕ) → p < 2 ^ k → at + p < 2 ^ n = λ p l. omega (arith, word-lt within h l) in
+      let last = fits (2 ^ k - 1) (omega (arith, pow-pos k)) in
+      let count : length f ≡ 2 ^ n = ap length words ∙ in-order-length (2 ^ n) (λ i. i) in
+      let m = at + ports - at in
+      let tick : length (take m (drop at f)) ≡ 2 ^ k = omega (arith, length-take m (drop at f), length-drop at f, pow-pos k) in
+      ext-getD 0 _ _ (tick ∙ sym (came n k (λ i. i) c h)) (λ p b.
+      let l : p < 2 ^ k = rw tick at b in
+      getD-take m (drop at f) p 0 (omega arith)
+      ∙ getD-drop at f p 0
+      ∙ ap (λ (g : List ℕ). getD g (at + p) 0) words
+      ∙ in-order-at (2 ^ n) (λ i. i) 0 (at + p) (fits p l)
+      ∙ ap (λ (a : ℕ). a + p) from
+      ∙ sym (came-at n k (λ i. i) c p h l))
+
+  call-comes : {j : ℕ} → j < 2 * T → {st : State} {ws ms out : List ℕ} {a : Ticked} {m : Memory} {left : List ℕ} → Here n k s j st ws ms → length out ≡ 2 ^ k
+      → Ticks edition1 n k s st (callAt S j) (record { words = ws; marks = ms }) out a m left → ComesOf (outcomeOn edition1 n k s (fresh n k) S j) st out a m left
+  call-comes {j} h {out = out} here room goes =
+      let reach : j < length S = rw whole h in
+      let p = run .planned in
+      let comes = tool-call edition1 n k s S (λ i. out) (fresh n k) (run .sized) (p .places) (p .formed) (λ i l. room) (is-fresh n k) series j reach in
+      rw (ap (ticked edition1 n k s S (λ i. out) j) (here .stands) ∙ comes) at goes
+
+  pub call-goes : {j : ℕ} → j < 2 * T → {st st' : State} {ts ws ms ws' ms' out left : List ℕ} {a : Ticked} → Here n k s j st ws ms → length out ≡ 2 ^ k → ts ≡ callAt S j
+      → Ticks edition1 n k s st ts (record { words = ws; marks = ms }) out a (record { words = ws'; marks = ms' }) left → st' ≡ stateAfter st a
+      → Here n k s (suc j) st' ws' ms' × (left ≡ onto (leavesIn n k s j) out)
+  unfolding standing
+  call-goes h here room brings goes after =
+      let comes = call-comes h here room (rw brings at goes) in
+      (record { stands = ap₂ (λ (y : State) (m : Memory). record { state = y; memory = m }) (after ∙ comes .state) (comes .memory) }, comes .buffer)
+
+  words-in : frame n S 0 ≡ inOrder (2 ^ n) (λ i. i)
+  words-in =
+      in-order-is (2 ^ n) (λ i. i) 0 (frame n S 0) (in-order-length (2 ^ n) _)
+      (λ i h. in-order-at (2 ^ n) (wordIn n S 0) 0 i h ∙ word-in n k (λ i. i) within i h)
+
+  abbrev lamps : List ℕ
+  lamps = lampOrder n (run .columns)
+
+  pub tick-leaves : {c : ℕ} → c < T → leavesIn n k s (T + c) ≡ tickIn k lamps c
+  tick-leaves {c} h =
+      let then : T + c ≡ T - 1 + 1 + c = omega (arith, pow-pos (tickBits n k)) in
+      ap (leavesIn n k s) then
+      ∙ right-tick within (run .order) (run .planned .right) (fresh n k) S (is-fresh n k) series (completed n k (λ i. i) within) h
+      (omega (arith, whole, pow-pos (tickBits n k))) lamps (rw words-in (lamp-moved (run .order)))
+
+  pub handed-lamp : handedOut n k s ≡ lamps
+  handed-lamp =
+      in-order-is (2 ^ n) (wordAtPlace n (run .columns)) 0 (handedOut n k s) (in-order-length (2 ^ n) _) (λ q h.
+      in-order-at (2 ^ n) _ 0 q h
+      ∙ ap (λ (ws : List ℕ). getD ws (portOf k q) 0) (tick-leaves (tick-lt within h))
+      ∙ in-order-at (2 ^ k) _ 0 (portOf k q) (port-lt k q)
+      ∙ ap (λ (i : ℕ). getD lamps i 0) (split q k)
+      ∙ in-order-at (2 ^ n) (wordAtPlace n (run .columns)) 0 q h)

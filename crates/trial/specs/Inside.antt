@@ -1,0 +1,58 @@
+-- What the functions inside the crate promise one another.
+--   trialCalls n k              the calls of a trial: words 0 to 2^n - 1, tick by tick, and then as many blank ticks
+--   standsAt n k s j            where the run of the sheet s stands before call j of the trial
+--   leavesIn n k s j            what it hands out in call j
+--   handedOut n k s             all that it hands out in the blank ticks, place by place
+--   Here n k s j st ws ms       the run stands there in the state st, with the words ws and the marks ms
+--   Runnable n k s              sizes are sound, and s is planned for an order
+--   Numbered n k s f            and f is words 0 to 2^n - 1
+--   Entering n k s f out ws ms  and there is room for a tick, and the memory is zeros
+--   Leaving n k s st f ws ms    the sheet is runnable, the frame has come in, and f has room for it
+use Prim.Native.Nat.{ℕ, _+_, _^_}
+use mathlib.Core.Path.{_≡_}
+use mathlib.Core.List.{List}
+use lib.ListN.{length, getD, replicate}
+use Rattle.kinds.specs.Edition.{edition1, Sized}
+use Rattle.kinds.specs.Frame.{ticks, tickOf, portOf, inOrder}
+use Rattle.order.specs.Order.{Order}
+use Rattle.run.specs.declared.State.{State}
+use Rattle.promise.specs.Series.{Stand, standingOn, outcomeOn}
+use Rattle.promise.proofs.OneFrame.{one-frame}
+use Rattle.promise.proofs.OneRun.{fresh}
+use Rattle.plan.specs.Tool.{IsPlanned}
+
+abbrev pub trialCalls : ℕ → ℕ → List (List ℕ)
+trialCalls n k = one-frame n k (λ i. i)
+
+abbrev pub standsAt : ℕ → ℕ → List ℕ → ℕ → Stand
+standsAt n k s = standingOn edition1 n k s (fresh n k) (trialCalls n k)
+
+abbrev pub leavesIn : ℕ → ℕ → List ℕ → ℕ → List ℕ
+leavesIn n k s j = outcomeOn edition1 n k s (fresh n k) (trialCalls n k) j .leaving
+
+abbrev pub handedOut : ℕ → ℕ → List ℕ → List ℕ
+handedOut n k s = inOrder (2 ^ n) (λ q. getD (leavesIn n k s (ticks n k + tickOf k q)) (portOf k q) 0)
+
+pub record Here (n k : ℕ) (s : List ℕ) (j : ℕ) (st : State) (ws ms : List ℕ) : Type 0 where
+  pub stands : _≡_ {A = Stand} (record { state = st; memory = record { words = ws; marks = ms } }) (standsAt n k s j)
+
+pub record Runnable (n k : ℕ) (s : List ℕ) : Type 0 where
+  pub sized : Sized edition1 n k
+  pub columns : List ℕ
+  pub order : Order n columns
+  pub planned : IsPlanned edition1 n k columns s
+
+pub record Numbered (n k : ℕ) (s f : List ℕ) : Type 0 where
+  pub runnable : Runnable n k s
+  pub words : f ≡ inOrder (2 ^ n) (λ i. i)
+
+pub record Entering (n k : ℕ) (s f out ws ms : List ℕ) : Type 0 where
+  pub numbered : Numbered n k s f
+  pub room : length out ≡ 2 ^ k
+  pub words : ws ≡ replicate (2 ^ (n + 1)) 0
+  pub marks : ms ≡ replicate (2 ^ (n + 1)) 0
+
+pub record Leaving (n k : ℕ) (s : List ℕ) (st : State) (f ws ms : List ℕ) : Type 0 where
+  pub runnable : Runnable n k s
+  pub entered : Here n k s (ticks n k) st ws ms
+  pub room : length f ≡ 2 ^ n

@@ -1,0 +1,3 @@
+-- An order tried out.
+pub mod Trial
+pub mod Inside

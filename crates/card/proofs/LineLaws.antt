@@ -1,7 +1,6 @@
 -- The lines of a listing.
 --   ending-more       what comes after a line's name, from the i-th number on: a space, that number, and what comes after it
 --   ending-done       from the last number on: the newline
---   labelled          the line of a tick: its number, a colon, and what comes after that
 --   ticksFrom k l c   the lines of the frame l from tick c on
 --   ticks-more        the line of tick c, and those after it
 --   ticks-done        there is none after the last
@@ -21,7 +20,7 @@ use Rattle.text.specs.Decimal.{codes, decimal}
 use Rattle.sheet.specs.Sheet.{Stage, paddedTo, flat}
 use Rattle.sheet.proofs.LayLaws.{flat-length}
 use Rattle.promise.specs.Series.{tickIn}
-use Rattle.card.specs.Listing.{spaced, line, tickLine}
+use Rattle.card.specs.Listing.{spaced, tickLine}
 use Rattle.card.specs.Inside.{ending, counted}
 
 module _ (ns : List ℕ) (i : ℕ) where
@@ -35,10 +34,6 @@ module _ (ns : List ℕ) (i : ℕ) where
   unfolding spaced
   ending-done h = rw (drop-of-length-le ns {i = i} h)
 
-pub labelled : (c : ℕ) (ns : List ℕ) → line (decimal c ++ codes ":") ns ≡ decimal c ++ (code ":" ∷ ending ns)
-unfolding codes
-labelled c ns = append-assoc (decimal c) (code ":" ∷ []) (ending ns)
-
 module _ (k : ℕ) (l : List ℕ) where
   abbrev ticks : ℕ
   ticks = length l / 2 ^ k
@@ -50,10 +45,14 @@ module _ (k : ℕ) (l : List ℕ) where
   ticksFrom c = flatten (drop c lines)
 
   module _ (c : ℕ) where
-    pub ticks-more : c < ticks → ticksFrom c ≡ tickLine k l c ++ ticksFrom (c + 1)
+    lines-more : c < ticks → ticksFrom c ≡ tickLine k l c ++ ticksFrom (c + 1)
     unfolding flatten
-    ticks-more h =
+    lines-more h =
         rw (drop-cons lines c [] (omega (arith, in-order-length ticks (tickLine k l))), in-order-at ticks (tickLine k l) [] c h, add-one, flatten)
+
+    pub ticks-more : c < ticks → ticksFrom c ≡ decimal c ++ (code ":" ∷ (ending (tickIn k l c) ++ ticksFrom (c + 1)))
+    unfolding codes
+    ticks-more h = lines-more h ∙ simp append-assoc
 
     pub ticks-done : ticks ≤ c → ticksFrom c ≡ []
     unfolding flatten

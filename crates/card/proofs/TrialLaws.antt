@@ -100,7 +100,7 @@ module _ {n k : ℕ} {C : List ℕ} (sized : Sized edition1 n k) (order : Order 
   read-rest =
       let size = laid-length write n-few k-few in
       let from : drop 47 (W ++ R) ≡ rest read =
-          ap (λ (i : ℕ). drop i (W ++ R)) {x = 47} {y = length W + 15} (omega (arith, size)) ∙ drop-append-add W R 15 ∙ laid-rest read n-few k-few in
+      ap (λ (i : ℕ). drop i (W ++ R)) {x = 47} {y = length W + 15} (omega (arith, size)) ∙ drop-append-add W R 15 ∙ laid-rest read n-few k-few in
       ap (take (length (plannedSheet edition1 n k C) - 47)) from ∙ take-all (length (plannedSheet edition1 n k C) - 47) (rest read) (omega (arith, whole, rest-length read))
 
   abbrev lamps : List ℕ
@@ -127,7 +127,7 @@ module _ {n k : ℕ} {C : List ℕ} (sized : Sized edition1 n k) (order : Order 
   pub planned-text : trialText n k (plannedSheet edition1 n k C) lamps ≡ listing n k C
   planned-text =
       let same = ap₂ (λ (w r : List ℕ). line (codes "write") w ++ (line (codes "read") r ++ tickLines k lamps))
-          (ap counted write-rest ∙ rest-counted write) (ap counted read-rest ∙ rest-counted read) in
+      (ap counted write-rest ∙ rest-counted write) (ap counted read-rest ∙ rest-counted read) in
       ap (λ (l : List ℕ). line (codes "order") (n ∷ k ∷ []) ++ l) same
       ∙ ap (λ (m : ℕ). line (codes "order") (n ∷ k ∷ []) ++ (stageLine (codes "write") (plannedWrite n k C .stages)
-          ++ (stageLine (codes "read") (plannedRead n k C .stages) ++ flatten (inOrder m (tickLine k lamps))))) lamps-ticks
+      ++ (stageLine (codes "read") (plannedRead n k C .stages) ++ flatten (inOrder m (tickLine k lamps))))) lamps-ticks

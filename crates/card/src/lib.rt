@@ -1,11 +1,11 @@
 // The order card, and the text of a listing (01, 'The order card').
 ghost use mathlib.Core.Path.{_≡_};
-ghost use mathlib.Core.List.{[], _∷_, _++_};
+ghost use mathlib.Core.List.{[], _∷_};
 ghost use lib.ListN.{length};
 ghost use Rattle.kinds.specs.Answers.{Says};
 ghost use Rattle.kinds.specs.Edition.{edition1};
 ghost use Rattle.kinds.specs.Reasons.{RightLengths};
-ghost use Rattle.text.specs.Decimal.{codes, decimal};
+ghost use Rattle.text.specs.Decimal.{decimal};
 ghost use Rattle.card.specs.Listing.{line, listing};
 ghost use Rattle.card.specs.Tool.{room, Lists, Prints};
 ghost use Rattle.card.specs.Card.{Reads};
@@ -218,23 +218,16 @@ fn put_ticks(text: &mut [u8], at: usize, k: u32, frame: &[u32]) -> usize
     let mut place = at;
     let mut c = 0;
     let mut start = 0;
-    while start < frame.len() {
-        let end = start + ports;
-        place = put_tick(text, place, c, &frame[start..end]);
+    let mut end = ports;
+    while end <= frame.len() {
+        let label = put_number(text, place, c);
+        let colon = put_bytes(text, label, b":");
+        place = put_numbers(text, colon, &frame[start..end]);
         c += 1;
         start = end;
+        end += ports;
     }
     place
-}
-
-// The line of tick c.
-fn put_tick(text: &mut [u8], at: usize, c: u32, words: &[u32]) -> usize
-    requires { ⌜ Fits (line (decimal c ++ codes ":") (now words)) at (now text) ⌝ }
-    ensures { λ r. ⌜ Writes (line (decimal c ++ codes ":") (now (words .entry))) at (now (text .entry)) (now (text .exit)) r ⌝ }
-{
-    let label = put_number(text, at, c);
-    text[label] = b':';
-    put_numbers(text, label + 1, words)
 }
 
 fn put_line(text: &mut [u8], at: usize, name: &[u8], numbers: &[u32]) -> usize

@@ -1,8 +1,8 @@
-// The listing program: an order card on standard input, its listing or its refusal on standard output.
+// The listing program: an order card on standard input, and its listing or its refusal on standard output.
 fn main() {
-    let mut card = [0; card::LONGEST + 1];
-    let length = io::read_full(0, &mut card);
+    let mut bytes = [0; card::LONGEST + 1];
+    let length = io::read_full(0, &mut bytes);
     let mut text = [0; card::ROOM];
-    let end = card::print(&card[..length], &mut text);
+    let end = card::print(&bytes[..length], &mut text);
     io::write_all(1, &text[..end]);
 }

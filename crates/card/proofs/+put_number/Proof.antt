@@ -1,11 +1,11 @@
 -- The proof of `card::put_number`, which calls itself. The measure is the number. Past the branch the last digit is left to write.
 use Prim.Native.Nat.{ℕ, _+_, _/_, _%_, _≤_, _<_}
-use mathlib.Core.Path.{_≡_, refl, ap, _∙_}
+use mathlib.Core.Path.{refl, ap}
 use mathlib.Core.List.{List, [], _∷_}
 use mathlib.Core.Logic.{⊎-elim}
 use native.Mathlib.Nat.{mod-eq-of-lt}
 use native.Mathlib.Omega.{arith}
-use lib.ListN.{length, set, length-set, length-append}
+use lib.ListN.{length, length-set, length-append}
 use borrow.Author.Needs.{needs}
 use borrow.Fn.Kinds.{In}
 use borrow.Fn.PlainCycle.{Measures, is, falls, and}
@@ -47,12 +47,12 @@ last-left : (t : ℕ) (c : put-number-lts.Joined1 (put-number-below t, put-numbe
 last-left t c =
     let start = c .before .before in
     ⊎-elim
-    (λ w. rw (w .5, w .6) (more (start .pre .1) (w .0 .taken) (w .2 .ensures)))
-    (λ w. rw (w .1, w .2) (small (start .pre .1) (w .0 .left)))
+    (λ w. rw (w .5, w .6) (more (start .pre .1) (omega (arith, w .0 .taken)) (w .2 .ensures)))
+    (λ w. rw (w .1, w .2) (small (start .pre .1) (omega (arith, w .0 .left))))
     (c .if1 .came)
 
 put-number-put-number-requires : (t : ℕ) → put-number-lts.Need-put-number-requires (put-number-below t, put-number.Post) (put-number-at t) put-number.Post
-put-number-put-number-requires t c κs = omega (arith, shorter (c .before .before .before .args .number) (c .before .if1 .taken))
+put-number-put-number-requires t c κs = omega (arith, shorter (c .before .before .before .args .number) (omega (arith, c .before .if1 .taken)))
 
 put-number-cast-text : (t : ℕ) → put-number-lts.Need-cast-text (put-number-below t, put-number.Post) (put-number-at t) put-number.Post
 put-number-cast-text t c = search needs

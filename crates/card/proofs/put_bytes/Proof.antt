@@ -55,7 +55,7 @@ loop-less : tie.Need-loop-less Inv-loop μ-loop
 loop-less c = search needs
 
 loop-again : tie.Need-loop-again Inv-loop μ-loop
-loop-again c = more (c .before .before .loop .inv) (c .before .loop-test .taken) refl
+loop-again c = more (c .before .before .loop .inv) (omega (arith, c .before .loop-test .taken)) refl
 
 add-result : tie.Need-add-result Inv-loop μ-loop
 add-result c = search needs
@@ -64,7 +64,7 @@ same-length : tie.Need-same-length Inv-loop μ-loop
 same-length c = search needs
 
 returns : tie.Need-returns Inv-loop μ-loop
-returns c = done (c .before .loop .inv) (c .loop-test .left)
+returns c = done (c .before .loop .inv) (omega (arith, c .loop-test .left))
 
 pub put-bytes-spec : {M : Type 1} → statement M
 put-bytes-spec =

@@ -1,63 +1,79 @@
--- `card::put_ticks` meets its contract. The invariant: the lines from tick c on are left to write, and this tick's words begin at start.
-use Prim.Native.Nat.{ℕ, _+_, _-_, _*_, _/_, _^_, _≤_, _<_}
-use mathlib.Core.Path.{_≡_, ap, _∙_}
-use mathlib.Core.List.{List, _++_}
-use native.Mathlib.Nat.{le-of-mul-le-mul-right, lt-of-mul-lt-mul-right, mul-le-mul-right, suc-mul}
+-- `card::put_ticks` meets its contract. The invariant: the lines from tick c on are left to write, and this tick's words are those from start to end.
+use Prim.Native.Char.{code}
+use Prim.Native.Nat.{ℕ, suc, _+_, _-_, _*_, _/_, _^_, _≤_, _<_}
+use mathlib.Core.Path.{_≡_, refl, ap}
+use mathlib.Core.List.{List, [], _∷_, _++_}
+use native.Mathlib.Nat.{lt-of-mul-lt-mul-right, suc-mul}
 use native.Mathlib.Omega.{arith}
 use borrow.Author.Needs.{needs}
 use lib.ListN.{length, take, drop, length-append}
-use lib.Pow.{pow-pos, shr-le}
-use Rattle.text.specs.Decimal.{codes, decimal}
+use lib.Pow.{pow-pos, pow-mono, shr-le}
+use Rattle.text.specs.Decimal.{decimal}
 use Rattle.promise.specs.Series.{tickIn}
-use Rattle.card.specs.Listing.{line, tickLine}
-use Rattle.card.specs.Inside.{Fits, Writes, tickLines, Frames}
+use Rattle.card.specs.Inside.{Writes, ending, tickLines, Frames}
 use Rattle.card.proofs.WriteLaws.{Left, left-all, left-more, left-done}
 use Rattle.card.proofs.LineLaws.{ticksFrom, ticks-more, ticks-done, tick-part}
 use Rattle.card.proofs.put_ticks.Statement.{statement}
 use Rattle.card.proofs.put_ticks.Tie as tie
 
-record Writing (k : ℕ) (l : List ℕ) (at : ℕ) (text₀ text : List ℕ) (ports place c start : ℕ) : Type 0 where
+record Writing (k : ℕ) (l : List ℕ) (at : ℕ) (text₀ text : List ℕ) (ports place c start end : ℕ) : Type 0 where
   frames : Frames k l
   words : ports ≡ 2 ^ k
   begins : start ≡ c * 2 ^ k
+  ends : end ≡ start + ports
   left : Left (tickLines k l) at text₀ (ticksFrom k l c) place text
 
-module _ {k : ℕ} {l : List ℕ} {at : ℕ} {text₀ text : List ℕ} {ports place c start : ℕ} (w : Writing k l at text₀ text ports place c start) where
+module _ {k : ℕ} {l : List ℕ} {at : ℕ} {text₀ text : List ℕ} {ports place c start end : ℕ} (w : Writing k l at text₀ text ports place c start end) where
   some : 0 < ports
   some = omega (arith, w .words, pow-pos k)
 
-  module _ (h : start < length l) where
+  ports-few : ports ≤ 32
+  ports-few = omega (arith, w .words, pow-mono {i = k} {j = 5} (w .frames .ports))
+
+  module _ (h : end ≤ length l) where
     tick : c < length l / 2 ^ k
-    tick = lt-of-mul-lt-mul-right (2 ^ k) (omega (arith, w .frames .whole))
+    tick = lt-of-mul-lt-mul-right (2 ^ k) (omega (arith, w .frames .whole, w .ends, some))
 
     few : c < 2 ^ 10
     few = omega (arith, tick, shr-le (length l) k)
 
-    ends : start + ports ≤ length l
-    ends = omega (arith, w .frames .whole, suc-mul c (2 ^ k), mul-le-mul-right (2 ^ k) tick)
+    abbrev rest : List ℕ
+    rest = ending (tickIn k l c) ++ ticksFrom k l (c + 1)
 
-    part : take (start + ports - start) (drop start l) ≡ tickIn k l c
-    part = tick-part k l c (w .begins) (omega arith) ends
+    this : ticksFrom k l c ≡ decimal c ++ (code ":" ∷ rest)
+    this = ticks-more k l c tick
 
-    room : Fits (tickLine k l c) place text
-    room = omega (arith, w .left, ap length (ticks-more k l c tick), length-append (tickLine k l c) (ticksFrom k l (c + 1)))
+    part : take (end - start) (drop start l) ≡ tickIn k l c
+    part = tick-part k l c (w .begins) (omega (arith, w .ends, w .words)) h
 
-    more : {y : List ℕ} {r : ℕ} → Writes (tickLine k l c) place text y r → Writing k l at text₀ y ports r (c + 1) (start + ports)
-    more wrote = record {
+    room : place + length (decimal c) + 1 + length (ending (take (end - start) (drop start l))) ≤ length text
+    room =
+        rw part
+        (omega (arith, w .left, ap length this, length-append (decimal c) (code ":" ∷ rest), length-append (ending (tickIn k l c)) (ticksFrom k l (c + 1))))
+
+    more : {x y z : List ℕ} {p q r : ℕ} → Writes (decimal c) place text x p → Writes (code ":" ∷ []) p x y q
+        → Writes (ending (take (end - start) (drop start l))) q y z r → Writing k l at text₀ z ports r (c + 1) end (end + ports)
+    more label colon numbers = record {
       frames = w .frames;
       words = w .words;
-      begins = omega (arith, suc-mul c (2 ^ k));
-      left = left-more (w .left) (ticks-more k l c tick) wrote;
+      begins = omega (arith, w .begins, w .ends, w .words, suc-mul c (2 ^ k));
+      ends = refl;
+      left = left-more (left-more (left-more (w .left) this label) refl colon) refl (rw part at numbers);
     }
 
-  done : length l ≤ start → Writes (tickLines k l) at text₀ text place
-  done h = left-done (w .left) (ticks-done k l c (le-of-mul-le-mul-right (omega (arith, w .frames .whole)) (pow-pos k)))
+  done : length l < end → Writes (tickLines k l) at text₀ text place
+  done h =
+      let over : length l / 2 ^ k < suc c = lt-of-mul-lt-mul-right (2 ^ k) (omega (arith, w .frames .whole, w .begins, w .ends, w .words, suc-mul c (2 ^ k))) in
+      left-done (w .left) (ticks-done k l c (omega (arith, over)))
 
 abbrev Inv-loop : tie.InvT-loop
-Inv-loop text₀ at k frame ports place₀ c₀ start₀ text place c start = Writing k frame at text₀ text ports place c start
+Inv-loop text₀ at k frame ports place₀ c₀ start₀ end₀ t12 text place c start end = Writing k frame at text₀ text ports place c start end
 
 abbrev μ-loop : tie.MeasureT-loop
-μ-loop text₀ at k frame ports place₀ c₀ start₀ text place c start = length frame - start
+μ-loop text₀ at k frame ports place₀ c₀ start₀ end₀ t12 text place c start end = length frame - start
+
+inside : (c : tie.In-loop Inv-loop μ-loop) → c .before .loop .end ≤ length (c .before .before .before .before .before .args .frame .now)
+inside c = omega (arith, c .loop-test .taken)
 
 two-to-requires : tie.Need-two-to-requires Inv-loop μ-loop
 two-to-requires c κs = search needs
@@ -72,49 +88,70 @@ loop-holds c =
       frames = start .pre .0;
       words = c .two-to .ensures .fits (omega (arith, start .pre .0 .ports));
       begins = omega arith;
+      ends = omega arith;
       left = left-all (start .pre .1);
     }
 
-add-end : tie.Need-add-end Inv-loop μ-loop
-add-end c = omega (arith, ends (c .before .loop .inv) (c .loop-test .taken))
+put-number-requires : tie.Need-put-number-requires Inv-loop μ-loop
+put-number-requires c κs = omega (arith, room (c .before .before .loop .inv) (inside (c .before)))
 
-mul-put-tick : tie.Need-mul-put-tick Inv-loop μ-loop
-mul-put-tick c = search needs
+slice-aggregate-put-bytes : tie.Need-slice-aggregate-put-bytes Inv-loop μ-loop
+slice-aggregate-put-bytes c = search needs
 
-sub-put-tick : tie.Need-sub-put-tick Inv-loop μ-loop
-sub-put-tick c = search needs
+put-bytes-requires : tie.Need-put-bytes-requires Inv-loop μ-loop
+put-bytes-requires c κs =
+    let label = c .before .before .before .before in
+    let turn = label .before .before in
+    omega (arith, label .put-number, room (turn .before .loop .inv) (inside turn))
 
-part-put-tick-start : tie.Need-part-put-tick-start Inv-loop μ-loop
-part-put-tick-start c = search needs
+mul-put-numbers : tie.Need-mul-put-numbers Inv-loop μ-loop
+mul-put-numbers c =
+    let turn = c .before .before .before .before .before .before .before .before .before .before in
+    omega (arith, inside turn, turn .before .before .before .before .before .good)
 
-part-put-tick-end : tie.Need-part-put-tick-end Inv-loop μ-loop
-part-put-tick-end c = omega (arith, ends (c .before .before .loop .inv) (c .before .loop-test .taken))
+sub-put-numbers : tie.Need-sub-put-numbers Inv-loop μ-loop
+sub-put-numbers c = search needs
 
-put-tick-requires : tie.Need-put-tick-requires Inv-loop μ-loop
-put-tick-requires c κs =
-    let turn = c .before .before in
-    rw (part (turn .before .loop .inv) (turn .loop-test .taken)) (room (turn .before .loop .inv) (turn .loop-test .taken))
+part-put-numbers-start : tie.Need-part-put-numbers-start Inv-loop μ-loop
+part-put-numbers-start c = search needs
+
+part-put-numbers-end : tie.Need-part-put-numbers-end Inv-loop μ-loop
+part-put-numbers-end c = search needs
+
+put-numbers-requires : tie.Need-put-numbers-requires Inv-loop μ-loop
+put-numbers-requires c κs =
+    let colon = c .before .before .before .before in
+    let label = colon .before .before .before .before .before in
+    let turn = label .before .before in
+    omega (arith, label .put-number, colon .put-bytes, room (turn .before .loop .inv) (inside turn))
 
 add-c : tie.Need-add-c Inv-loop μ-loop
 add-c c =
-    let turn = c .before .before .before .before .before in
-    omega (arith, few (turn .before .loop .inv) (turn .loop-test .taken))
+    let turn = c .before .before .before .before .before .before .before .before .before .before .before .before .before .before in
+    omega (arith, few (turn .before .loop .inv) (inside turn))
+
+add-end : tie.Need-add-end Inv-loop μ-loop
+add-end c =
+    let turn = c .before .before .before .before .before .before .before .before .before .before .before .before .before .before in
+    omega (arith, inside turn, turn .before .loop .inv .words, turn .before .before .before .before .before .good, ports-few (turn .before .loop .inv))
 
 loop-less : tie.Need-loop-less Inv-loop μ-loop
 loop-less c =
-    let turn = c .before .before .before .before .before in
-    omega (arith, some (turn .before .loop .inv), turn .loop-test .taken)
+    let turn = c .before .before .before .before .before .before .before .before .before .before .before .before .before .before in
+    omega (arith, some (turn .before .loop .inv), turn .before .loop .inv .ends, inside turn)
 
 loop-again : tie.Need-loop-again Inv-loop μ-loop
 loop-again c =
-    let turn = c .before .before .before .before .before in
-    more (turn .before .loop .inv) (turn .loop-test .taken) (rw (part (turn .before .loop .inv) (turn .loop-test .taken)) at (c .before .before .put-tick .ensures))
+    let colon = c .before .before .before .before .before .before .before in
+    let label = colon .before .before .before .before .before in
+    let turn = label .before .before in
+    more (turn .before .loop .inv) (inside turn) (label .put-number .ensures) (colon .put-bytes .ensures) (c .before .before .put-numbers .ensures)
 
 same-length : tie.Need-same-length Inv-loop μ-loop
 same-length c = c .before .loop .inv .left .same
 
 returns : tie.Need-returns Inv-loop μ-loop
-returns c = done (c .before .loop .inv) (c .loop-test .left)
+returns c = done (c .before .loop .inv) (omega (arith, c .loop-test .left))
 
 pub put-ticks-spec : {M : Type 1} → statement M
 put-ticks-spec =
@@ -125,13 +162,16 @@ put-ticks-spec =
     two-to-requires
     cast-ports
     loop-holds
-    add-end
-    mul-put-tick
-    sub-put-tick
-    part-put-tick-start
-    part-put-tick-end
-    put-tick-requires
+    put-number-requires
+    slice-aggregate-put-bytes
+    put-bytes-requires
+    mul-put-numbers
+    sub-put-numbers
+    part-put-numbers-start
+    part-put-numbers-end
+    put-numbers-requires
     add-c
+    add-end
     loop-less
     loop-again
     same-length

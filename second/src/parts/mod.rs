@@ -1,0 +1,9 @@
+//! What is compared, part by part.
+
+pub mod by_hand;
+pub mod cards;
+pub mod orders;
+pub mod plain_agrees;
+pub mod refusals;
+pub mod runs;
+pub mod verdicts;

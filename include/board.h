@@ -5,8 +5,9 @@
  * An order is n columns: column j is the place at which word 2^j leaves, and word i leaves at the exclusive or of the
  * columns at the set bits of i.
  *
- * Link with libboard.a (rt staticlib board makes target/staticlib/libboard.a). No function allocates, keeps a pointer
- * or changes anything but the buffers it is lent; each may be called from several threads on different buffers.
+ * Link with libboard.a, for x86-64 (rt staticlib board makes target/staticlib/libboard.a). No function allocates, keeps
+ * a pointer or changes anything but the buffers it is lent; each may be called from several threads on different
+ * buffers. board_list keeps some 16 KB on the stack, the others far less.
  * Every buffer is the caller's, and is lent for the call: a pointer, and after it the number of its elements (not bytes).
  * Buffers of one call that are not const overlap no other buffer of that call. A pointer of a buffer with no elements
  * is never read and may be anything but NULL.
@@ -35,7 +36,7 @@ enum {
   BOARD_WRITE_WIRING = 6,  /* write wiring not invertible */
   BOARD_READ_WIRING = 7,   /* read wiring not invertible */
   BOARD_SHARED_CELL = 8,   /* two words share a cell */
-  BOARD_DIFFERS = 9,       /* the sheet does not give this order */
+  BOARD_DIFFERS = 9,       /* M differs from N P: the sheet is for another order */
   BOARD_STATE = 10,        /* impossible run state */
   BOARD_WRITE_CLASH = 11,  /* two written words want one bank in this call */
   BOARD_OVERWRITE = 12,    /* a cell to be written is filled */
@@ -45,12 +46,12 @@ enum {
 };
 
 enum {
-  BOARD_SHEET = 64,  /* elements of a sheet */
+  BOARD_SHEET_PLACES = 64,
   BOARD_STATE_PLACES = 3,
-  BOARD_SAID = 3,
-  BOARD_SUMS = 3,
-  BOARD_CARD_MOST = 128, /* bytes of a card, at most */
-  BOARD_TEXT = 8192      /* places of a text buffer, at least */
+  BOARD_SAID_PLACES = 3,
+  BOARD_SUMS_PLACES = 3,
+  BOARD_CARD_PLACES = 128, /* at most; a longer card is 15 */
+  BOARD_TEXT_PLACES = 8192 /* at least */
 };
 
 /* Order to sheet. columns: n elements. sheet: 64 elements, which hold the planned sheet on 0: 32 of the write side, then
@@ -66,10 +67,12 @@ uint32_t board_inspect(uint32_t n, uint32_t k, const uint16_t *columns, size_t c
 
 /* One tick of a sheet. sheet: 64 elements. tick: the 2^k words that came, or none (length 0) on a blank tick.
  * out: 2^k elements; if a tick is handed out its words stand there by port, else out is left alone.
- * words, marks: 2^(n+1) elements each, the memory: half h is from h * 2^n on; a mark that is not 0 means filled.
+ * words, marks: 2^(n+1) elements each, the memory: half h is from h * 2^n on, by cell number; a mark that is not 0 means
+ * filled.
  * state: a (ticks of the incoming frame so far), h (0 or 1), r (next tick to read; 2^t when idle), replaced on 0.
- * said: 3 elements. On 0 the first is 1 if a tick was handed out, else 0. On 11 and 13 the second and third are the
- * first two ports that want one bank. The others keep their content.
+ * said: 3 elements. On 0 the first is 1 if a tick was handed out, else 0. On 11 and 13 the second and third are the two
+ * ports of the first pair that wants one bank: the smallest first port, then the smallest second. The others keep their
+ * content.
  * A fresh run: all marks 0, and a, h, r = 0, 0, 2^t. A frame completed in a call leaves in the next 2^t calls, blank or
  * not. Refusals 1, 2, 5, 10 to 14. */
 uint32_t board_tick(uint32_t n, uint32_t k, const uint16_t *sheet, size_t sheet_length, uint32_t *state,
@@ -90,7 +93,7 @@ uint32_t board_price(uint32_t n, uint32_t k, const uint16_t *sheet, size_t sheet
 
 /* The listing of an order card: card is its bytes, as `3 1 4 2 1` and a newline (n, k, the columns). On 0 the listing
  * stands at the start of text, not ended by a zero byte, and length[0] is how many bytes it has. text: 8192 elements or
- * more, which is enough for every listing. length: 1 element. Refusals 15, then 1 to 4. */
+ * more, which is enough for every listing; fewer are 2. length: 1 element. Refusals 15, then 1 to 4. */
 uint32_t board_list(const uint8_t *card, size_t card_length, uint8_t *text, size_t text_length, uint32_t *length,
                     size_t length_length);
 

@@ -1,13 +1,13 @@
 -- The tools under C names: each answers, as a number of 01's table, what the tool answers.
 --   Numbers T r            r is the number of an answer that meets T, the tool's contract
---   Besides e n k l r T K  a tool of C that is lent buffers beside those of the board's tool, of the lengths l. Where these are right, T holds: it does as the board's tool. Where one is wrong, that is
+--   Besides e n k l r T K  a tool of C that is lent buffers beside those of the board's tool, whose lengths, and what they should be, are l. Where these are right, T holds: it does as the board's tool. Where one is wrong, that is
 --                          2 as well: r is the lowest of 1 and 2 that applies, and K holds, everything lent is as it came
 --   stateIn l              the state in the places l: a, h, r
 --   placesOf st            the places of the state st
---   saidAfter a l          the places l after the run answered a: the first is 1 if a tick was handed out, else 0; the next two are the ports of 11 and 13. The others keep their content
+--   saidAfter a l          the places l after the run answered a. Done: the first is 1 if a tick was handed out, else 0. Refused with 11 or 13: the next two are the ports. The others keep their content
 --   Reports a st st' l l' r     what C is told of the run's answer a: its number r, the state st', and the places l'
 --   TicksAs e n k s st st' ws m m' out out' l l' r     the run: st, l and what else is lent become st', l' and so on
---   sumsAfter a l          the places l after the price tool answered a: the three sums
+--   sumsAfter a l          the places l after the price tool answered a: the three sums; on a refusal, as they came
 --   PricesAs e n k s l l' r     the price
 use Prim.Native.Nat.{ℕ}
 use mathlib.Core.Path.{_≡_}
@@ -51,7 +51,7 @@ pub record Reports (a : Ticked) (st st' l l' : List ℕ) (r : ℕ) : Type 0 wher
   pub said : l' ≡ saidAfter a l
 
 pub record TicksAs (e : Edition) (n k : ℕ) (s st st' ws : List ℕ) (m m' : Memory) (out out' l l' : List ℕ) (r : ℕ) : Type 0 where
-  pub lengths : Besides e n k ((length st, 3) ∷ (length l, 3) ∷ []) r
+  pub tool : Besides e n k ((length st, 3) ∷ (length l, 3) ∷ []) r
       ((a : Ticked) × Ticks e n k s (stateIn st) ws m out a m' out' × Reports a st st' l l' r)
       ((st' ≡ st) × (m' ≡ m) × (out' ≡ out) × (l' ≡ l))
 
@@ -60,4 +60,4 @@ sumsAfter (Costs p) l = sumsOf (Costs p)
 sumsAfter (Unpriced x) l = l
 
 pub record PricesAs (e : Edition) (n k : ℕ) (s l l' : List ℕ) (r : ℕ) : Type 0 where
-  pub lengths : Besides e n k ((length l, 3) ∷ []) r ((a : Priced) × Prices e n k s a × (r ≡ given (refusalOfPrice a)) × (l' ≡ sumsAfter a l)) (l' ≡ l)
+  pub tool : Besides e n k ((length l, 3) ∷ []) r ((a : Priced) × Prices e n k s a × (r ≡ given (refusalOfPrice a)) × (l' ≡ sumsAfter a l)) (l' ≡ l)

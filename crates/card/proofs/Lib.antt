@@ -5,4 +5,5 @@ pub mod LineLaws
 pub mod RoomLaws
 pub mod TrialLaws
 pub mod ListLaws
+pub mod ToolLaws
 pub mod Cases

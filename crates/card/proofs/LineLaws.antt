@@ -20,17 +20,17 @@ use Rattle.text.specs.Decimal.{codes, decimal}
 use Rattle.sheet.specs.Sheet.{Stage, paddedTo, flat}
 use Rattle.sheet.proofs.LayLaws.{flat-length}
 use Rattle.promise.specs.Series.{tickIn}
-use Rattle.card.specs.Listing.{spaced, tickLine}
-use Rattle.card.specs.Inside.{ending, counted}
+use Rattle.card.specs.Listing.{spaced, tickLine, lineEnd}
+use Rattle.card.specs.Inside.{counted}
 
 module _ (ns : List ℕ) (i : ℕ) where
-  pub ending-more : i < length ns → ending (drop i ns) ≡ code " " ∷ (decimal (getD ns i 0) ++ ending (drop (i + 1) ns))
+  pub ending-more : i < length ns → lineEnd (drop i ns) ≡ code " " ∷ (decimal (getD ns i 0) ++ lineEnd (drop (i + 1) ns))
   unfolding spaced
   ending-more h =
       rw (drop-cons ns i 0 h, spaced, add-one)
       (ap (λ (r : List ℕ). code " " ∷ r) (append-assoc (decimal (getD ns i 0)) (spaced (drop (suc i) ns)) (code "\n" ∷ [])))
 
-  pub ending-done : length ns ≤ i → ending (drop i ns) ≡ code "\n" ∷ []
+  pub ending-done : length ns ≤ i → lineEnd (drop i ns) ≡ code "\n" ∷ []
   unfolding spaced
   ending-done h = rw (drop-of-length-le ns {i = i} h)
 
@@ -50,7 +50,7 @@ module _ (k : ℕ) (l : List ℕ) where
     lines-more h =
         rw (drop-cons lines c [] (omega (arith, in-order-length ticks (tickLine k l))), in-order-at ticks (tickLine k l) [] c h, add-one, flatten)
 
-    pub ticks-more : c < ticks → ticksFrom c ≡ decimal c ++ (code ":" ∷ (ending (tickIn k l c) ++ ticksFrom (c + 1)))
+    pub ticks-more : c < ticks → ticksFrom c ≡ decimal c ++ (code ":" ∷ (lineEnd (tickIn k l c) ++ ticksFrom (c + 1)))
     unfolding codes
     ticks-more h = lines-more h ∙ simp append-assoc
 

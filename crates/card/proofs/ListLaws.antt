@@ -1,12 +1,14 @@
 -- The order on a card, as the listing goes on with it.
 --   order-on-card     what the table of the order that was read gives, the card's gives
 --   listed-read       the text for the order that was read is the card's
+--   lengths-right     where the lent lengths are right, the table gives what it gives where none is lent
+--   refusal-short     a refusal's line is short
+--   prints-by         a text that is written first of all, into a buffer that is as it came, is what is printed
 --   one-set           one place that is set
 use Prim.Native.Char.{code}
 use Prim.Native.Nat.{ℕ, _-_, _^_, _<_, _≤_}
 use mathlib.Core.Path.{_≡_, refl, sym, ap, ap₂, _∙_}
 use mathlib.Core.List.{List, [], _∷_, _++_}
-use mathlib.Core.Option.{none}
 use native.Mathlib.Omega.{arith}
 use lib.ListN.{length, take, set, length-append}
 use Rattle.kinds.specs.Edition.{edition1, sized?}
@@ -20,7 +22,7 @@ use Rattle.text.proofs.DecimalLaws.{decimal-length}
 use Rattle.order.specs.Table.{orderTable}
 use Rattle.run.specs.Memory.{onto}
 use Rattle.sheet.proofs.LayLaws.{padded-part}
-use Rattle.card.specs.Card.{mostColumns, nOn, kOn, columnsOn, unreadable, Reads, cardTable}
+use Rattle.card.specs.Card.{mostColumns, columnsOn, unreadable, Reads, cardTable}
 use Rattle.card.specs.Listing.{spaced, line, listing}
 use Rattle.card.specs.Tool.{listed, printed, Prints}
 use Rattle.card.specs.Inside.{Writes}
@@ -43,7 +45,6 @@ module _ {b : List ℕ} {R : Reading} (reads : Reads b R) where
   pub listed-read : listing (R .n) (R .k) (read R) ≡ listed b
   listed-read = rw (reads .n, reads .k, columns-read) refl
 
--- right lengths, or none lent: the table gives the same
 module _ (b : List ℕ) (others : List (ℕ × ℕ)) (right : RightLengths others) where
   pub lengths-right : lowest (cardTable edition1 b others) ≡ lowest (cardTable edition1 b [])
   lengths-right =
@@ -55,7 +56,6 @@ pub refusal-short : (x : ℕ) → x < 2 ^ 32 → length (line (codes "refused") 
 unfolding codes spaced
 refusal-short x small = omega (arith, decimal-length 10 x (omega arith) (omega (arith, small)), length-append (decimal x ++ []) (code "\n" ∷ []), length-append (decimal x) [])
 
--- a text that is written first of all, into a buffer that is as it came
 pub prints-by : {b t t' x w : List ℕ} {r : ℕ} → Writes w 0 t t' r → w ≡ printed edition1 b → t ≡ x → length w ≤ length x → Prints edition1 b x t' r
 prints-by {t = t} {w = w} {r = r} writes same kept fits =
     let end : r ≡ length w = omega (arith, writes .next) in

@@ -22,7 +22,7 @@ use Rattle.plan.proofs.ChoiceLaws.{read-layable}
 use Rattle.plan.proofs.PlannedLaws.{write-layable}
 use Rattle.trial.specs.Trial.{lampOrder}
 use Rattle.card.specs.Listing.{line, stageLine, tickLine, listing}
-use Rattle.card.specs.Inside.{counted, Counted, tickLines, Frames, writeCount, readCount, Tried, trialText}
+use Rattle.card.specs.Inside.{counted, Counted, tickLines, writeCount, readCount, Tried, trialText}
 use Rattle.card.proofs.LineLaws.{counted-stages}
 
 module _ {n k : ℕ} {S : Side} (layable : Layable edition1 n k S) where

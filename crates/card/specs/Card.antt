@@ -2,6 +2,7 @@
 --   longest            "at most 128 bytes"
 --   IsCard b ns        b is a card, and ns are its numbers: "n, k, the columns". "Fewer than two numbers is 15"
 --   card? b            whether b is a card, and its numbers
+--   numbersFound d     the numbers that d found
 --   numbersOn b        the numbers on the card b; none where it is no card
 --   nOn b, kOn b, columnsOn b      n, k and the columns
 --   unreadable b       15: order card unreadable

@@ -4,7 +4,6 @@
 --   ReadsColumns b at r     the numbers from place at of b to its end, with zeros after them, if these bytes are a row of numbers
 --   Fits w at x             there is room for w from place at of the text x on
 --   Writes w at x x' r      w is written into the text x, from place at on, and r is the place after it
---   ending ns               what comes after the name on a line with the numbers ns
 --   counted l               the count that stands first in l, and as many stages after it: "stage count, then each direction and control"
 --   Counted l               l is the places of a side from its count on
 --   tickLines k l           a line for each tick of the frame l
@@ -13,7 +12,6 @@
 --   Tried k s f             a sheet and a frame that can be listed
 --   trialText n k s f       what is listed of the sheet s and the frame f that came out of it
 --   Listable n k C x        an order, and a text with room for every listing
-use Prim.Native.Char.{code}
 use Prim.Native.Nat.{ℕ, _+_, _-_, _*_, _/_, _^_, _≤_}
 use mathlib.Core.Path.{_≡_}
 use mathlib.Core.Bool.{true, false}
@@ -27,7 +25,7 @@ use Rattle.text.specs.Numbers.{Row}
 use Rattle.order.specs.Order.{Order}
 use Rattle.sheet.specs.Sheet.{paddedTo}
 use Rattle.card.specs.Card.{longest, mostColumns, IsCard, Reads}
-use Rattle.card.specs.Listing.{spaced, line, tickLine}
+use Rattle.card.specs.Listing.{line, tickLine}
 use Rattle.card.specs.Tool.{room}
 use Rattle.card.specs.declared.Columns.{Columns}
 use Rattle.card.specs.declared.Reading.{Reading}
@@ -50,9 +48,6 @@ Fits w at x = at + length w ≤ length x
 pub record Writes (w : List ℕ) (at : ℕ) (x x' : List ℕ) (r : ℕ) : Type 0 where
   pub next : r ≡ at + length w
   pub text : x' ≡ sets x at w
-
-abbrev pub ending : List ℕ → List ℕ
-ending ns = spaced ns ++ (code "\n" ∷ [])
 
 abbrev pub tickLines : ℕ → List ℕ → List ℕ
 tickLines k l = flatten (inOrder (length l / 2 ^ k) (tickLine k l))

@@ -1,9 +1,10 @@
 -- The text of a listing (01, 'The order card').
 --   spaced ns              the numbers ns, each with a space before it
+--   lineEnd ns             what comes after the name of a line with the numbers ns
 --   line name ns           a line: its name, and the numbers ns
 --   stageLine name ss      "stage count, then each direction and control"
 --   tickLine k l c         tick c of the frame l: its number, and its words, by port
---   listing e n k C        what is listed for the order with the columns C: "then each tick out"
+--   listing n k C          what is listed for the order with the columns C: "then each tick out"
 --   refusalLine x          "a refusal prints one line, as `refused 4`"
 use Prim.Native.Char.{code}
 use Prim.Native.Nat.{ℕ}
@@ -22,8 +23,11 @@ unfoldable pub spaced : List ℕ → List ℕ
 spaced [] = []
 spaced (x ∷ xs) = code " " ∷ decimal x ++ spaced xs
 
+abbrev pub lineEnd : List ℕ → List ℕ
+lineEnd ns = spaced ns ++ (code "\n" ∷ [])
+
 abbrev pub line : List ℕ → List ℕ → List ℕ
-line name ns = name ++ (spaced ns ++ (code "\n" ∷ []))
+line name ns = name ++ lineEnd ns
 
 abbrev pub stageLine : List ℕ → List Stage → List ℕ
 stageLine name ss = line name (length ss ∷ flat ss)

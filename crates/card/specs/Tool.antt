@@ -4,6 +4,7 @@
 --   listed b               the text for the order on the card b
 --   Lists e b t t' l l' r  the tool: r is 15, or the lowest of 1 to 4 that applies; done, the text stands from the first place of t' on, the rest of t' is as it came, and l' is its length;
 --                          refused, t' is t and l' is l
+--   textFor o b            the text where nothing is refused; where the refusal o is given, its line
 --   printed e b            what the program prints for the card b: the text, or the refusal's line
 --   Prints e b t t' r      that stands from the first place of t' on, the rest of t' is as it came, and r is its length
 use Prim.Native.Nat.{ℕ, min}

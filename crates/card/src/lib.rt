@@ -6,10 +6,10 @@ ghost use Rattle.kinds.specs.Answers.{Says};
 ghost use Rattle.kinds.specs.Edition.{edition1};
 ghost use Rattle.kinds.specs.Reasons.{RightLengths};
 ghost use Rattle.text.specs.Decimal.{decimal};
-ghost use Rattle.card.specs.Listing.{line, listing};
+ghost use Rattle.card.specs.Listing.{lineEnd, line, listing};
 ghost use Rattle.card.specs.Tool.{room, Lists, Prints};
 ghost use Rattle.card.specs.Card.{Reads};
-ghost use Rattle.card.specs.Inside.{Unread, Further, ReadsColumns, Fits, Writes, ending, counted, Counted, tickLines, Frames, Tried, trialText, Listable};
+ghost use Rattle.card.specs.Inside.{Unread, Further, ReadsColumns, Fits, Writes, counted, Counted, tickLines, Frames, Tried, trialText, Listable};
 ghost use Rattle.sheet.specs.Sheet.{paddedTo};
 ghost use Prim.Native.Nat.{_≤_, min};
 use kinds::Answer;
@@ -240,8 +240,8 @@ fn put_line(text: &mut [u8], at: usize, name: &[u8], numbers: &[u32]) -> usize
 
 // The numbers, each after a space, and the newline.
 fn put_numbers(text: &mut [u8], at: usize, numbers: &[u32]) -> usize
-    requires { ⌜ Fits (ending (now numbers)) at (now text) ⌝ }
-    ensures { λ r. ⌜ Writes (ending (now (numbers .entry))) at (now (text .entry)) (now (text .exit)) r ⌝ }
+    requires { ⌜ Fits (lineEnd (now numbers)) at (now text) ⌝ }
+    ensures { λ r. ⌜ Writes (lineEnd (now (numbers .entry))) at (now (text .entry)) (now (text .exit)) r ⌝ }
 {
     let mut place = at;
     let mut i = 0;

@@ -1,9 +1,10 @@
 -- The cases that 01 marks, in its order ('Frames we tried by hand').
 --   Case                      what 01 says of one: the stages of a plan, its addresses and wirings, a frame out, a refusal of the planner, a verdict of the inspector
 --   Holds c                   01 is right about it, on the written meanings
+--   Each cs                   01 is right about each case of cs
 --   reversal                  the sheet planned for bit reversal
 --   marked                    the cases
-use Prim.Native.Nat.{ℕ, _+_, _^_}
+use Prim.Native.Nat.{ℕ}
 use mathlib.Core.Path.{_≡_}
 use mathlib.Core.List.{List, [], _∷_}
 use lib.ListN.{set, replicate}
@@ -14,7 +15,7 @@ use Rattle.kinds.specs.Refusal.{given}
 use Rattle.sheet.specs.Sheet.{flat}
 use Rattle.plan.specs.Planned.{plannedRead, plannedWrite, plannedSheet}
 use Rattle.plan.specs.Tool.{planTable}
-use Rattle.trial.specs.Inside.{handedOut}
+use Rattle.trial.specs.Trial.{tickOut}
 use Rattle.inspect.specs.Tool.{inspectTable}
 
 pub data Case : Type 0 where
@@ -22,8 +23,8 @@ pub data Case : Type 0 where
   stages : (n k : ℕ) (C write read : List ℕ) → Case
   -- of either side addresses and wiring
   columns : (n k : ℕ) (C writeAddresses readAddresses writeWiring readWiring : List ℕ) → Case
-  -- words 0 to 2^n - 1, run through the planned sheet
-  frameOut : (n k : ℕ) (C out : List ℕ) → Case
+  -- words 0 to 2^n - 1, run through the planned sheet: each tick out
+  frameOut : (n k : ℕ) (C : List ℕ) (out : List (List ℕ)) → Case
   refusal : (n k : ℕ) (C : List ℕ) (number : ℕ) → Case
   verdict : (n k : ℕ) (C sheet : List ℕ) (number : ℕ) → Case
 
@@ -31,7 +32,7 @@ abbrev pub Holds : Case → Type 0
 Holds (stages n k C write read) = (flat (plannedWrite n k C .stages) ≡ write) × (flat (plannedRead n k C .stages) ≡ read)
 Holds (columns n k C wa ra ww rw) =
     (plannedWrite n k C .addresses ≡ wa) × (plannedRead n k C .addresses ≡ ra) × (plannedWrite n k C .wiring ≡ ww) × (plannedRead n k C .wiring ≡ rw)
-Holds (frameOut n k C out) = handedOut n k (plannedSheet edition1 n k C) ≡ out
+Holds (frameOut n k C out) = inOrder (ticks n k) (tickOut edition1 n k (plannedSheet edition1 n k C)) ≡ out
 Holds (refusal n k C number) = given (lowest (planTable edition1 n k C (replicate (sheetPlaces edition1) 0))) ≡ number
 Holds (verdict n k C sheet number) = given (lowest (inspectTable edition1 n k C sheet)) ≡ number
 
@@ -48,11 +49,11 @@ marked =
     ∷ refusal 1 1 (0 ∷ []) 4
     ∷ refusal 1 1 (2 ∷ []) 3
     ∷ stages 2 1 (2 ∷ 1 ∷ []) (1 ∷ 1 ∷ []) (1 ∷ 1 ∷ [])
-    ∷ frameOut 2 1 (2 ∷ 1 ∷ []) (0 ∷ 2 ∷ 1 ∷ 3 ∷ [])
+    ∷ frameOut 2 1 (2 ∷ 1 ∷ []) ((0 ∷ 2 ∷ []) ∷ (1 ∷ 3 ∷ []) ∷ [])
     ∷ stages 2 1 (1 ∷ 3 ∷ []) (1 ∷ 1 ∷ []) []
-    ∷ frameOut 2 1 (1 ∷ 3 ∷ []) (0 ∷ 1 ∷ 3 ∷ 2 ∷ [])
+    ∷ frameOut 2 1 (1 ∷ 3 ∷ []) ((0 ∷ 1 ∷ []) ∷ (3 ∷ 2 ∷ []) ∷ [])
     ∷ stages 2 2 (2 ∷ 1 ∷ []) [] []
-    ∷ frameOut 2 2 (2 ∷ 1 ∷ []) (0 ∷ 2 ∷ 1 ∷ 3 ∷ [])
+    ∷ frameOut 2 2 (2 ∷ 1 ∷ []) ((0 ∷ 2 ∷ 1 ∷ 3 ∷ []) ∷ [])
     ∷ columns 3 1 (4 ∷ 2 ∷ 1 ∷ []) (2 ∷ 1 ∷ 0 ∷ []) (0 ∷ 1 ∷ 2 ∷ []) (1 ∷ []) (1 ∷ [])
     ∷ stages 3 1 (4 ∷ 2 ∷ 1 ∷ []) (1 ∷ 2 ∷ []) (1 ∷ 2 ∷ [])
     ∷ stages 4 2 (2 ∷ 4 ∷ 8 ∷ 1 ∷ []) (1 ∷ 2 ∷ []) (1 ∷ 1 ∷ [])

@@ -1,7 +1,6 @@
--- The planned sheets of 01's frames, computed on the written meaning; and one order for which the rows of P3, not restricted to the ports that P1 sends to 0, would give another read stage.
-use Prim.Native.Nat.{ℕ}
+-- Planned sheets, computed on the written meaning; and one order for which the rows of P3, not restricted to the ports that P1 sends to 0, would give another read stage.
 use mathlib.Core.Path.{_≡_, refl}
-use mathlib.Core.List.{List, [], _∷_, map}
+use mathlib.Core.List.{[], _∷_, map}
 use native.Mathlib.Decide.{ℕ-discrete}
 use lib.Count.{ones}
 use Rattle.kinds.specs.Edition.{edition1}
@@ -13,27 +12,15 @@ use Rattle.span.specs.Sums.{sumOf?}
 use Rattle.span.specs.Scan.{keptAt, others, mask, masks}
 use Rattle.span.specs.Rows.{dots, rows}
 use Rattle.order.specs.Parts.{rowsP3}
-use Rattle.sheet.specs.Sheet.{flat}
 use Rattle.sheet.proofs.Cases.{reversal}
 use Rattle.maps.specs.Cells.{afterStages}
 use Rattle.maps.specs.Stages.{keptStages}
 use Rattle.promise.proofs.Cases.{gray, identity, turning, one-tick}
-use Rattle.plan.specs.Planned.{othersOfP1, portsToZero, keptOfP3, pairs, readStages, plannedRead, plannedWrite, plannedSheet}
+use Rattle.plan.specs.Planned.{othersOfP1, portsToZero, keptOfP3, pairs, readStages, plannedSheet}
 
 computed : Unit {0}
 unfolding image columns ℕ-discrete sumOf? someBelow those keptAt others mask masks inOrder dots rows dot parity ones afterStages keptStages othersOfP1 portsToZero keptOfP3 pairs readStages
 computed = tt
-
--- write stages and read stages, direction then control
-abbrev stages : ℕ × ℕ × List ℕ → List ℕ × List ℕ
-stages (n, k, C) = (flat (plannedWrite n k C .stages), flat (plannedRead n k C .stages))
-
-planned-stages : map stages (
-    (1, 1, 1 ∷ []) ∷ (2, 1, 2 ∷ 1 ∷ []) ∷ (2, 1, 1 ∷ 3 ∷ []) ∷ (2, 2, 2 ∷ 1 ∷ []) ∷ (3, 1, 4 ∷ 2 ∷ 1 ∷ []) ∷ (4, 2, 2 ∷ 4 ∷ 8 ∷ 1 ∷ []) ∷ []
-    )
-    ≡ ([], []) ∷ (1 ∷ 1 ∷ [], 1 ∷ 1 ∷ []) ∷ (1 ∷ 1 ∷ [], []) ∷ ([], []) ∷ (1 ∷ 2 ∷ [], 1 ∷ 2 ∷ []) ∷ (1 ∷ 2 ∷ [], 1 ∷ 1 ∷ []) ∷ []
-unfolding computed
-planned-stages = refl
 
 -- the sheets that were judged and run: bit reversal (write addresses 2 1 0, read addresses 0 1 2, wirings 1), the identity, Gray code, columns 2 3, and one tick
 planned-sheets : map (λ (n, k, C). plannedSheet edition1 n k C) (

@@ -1,5 +1,4 @@
 -- One frame and then as many blank calls, where word i of the frame is u i.
---   one-frame n k u       the series
 --   one-frame-length      it has 2^t calls and then 2^t blank ones
 --   came, came-at         a call of the frame brings 2^k words, those of its tick
 --   some-came             so it is not blank
@@ -9,27 +8,25 @@
 --   one-frame-series      it is a series of calls, if the words have 32 bits
 use Prim.Native.Nat.{ℕ, zero, suc, _+_, _-_, _*_, _^_, _<_, _≤_}
 use mathlib.Core.Path.{_≡_, refl, ap, _∙_}
-use mathlib.Core.Bool.{cond}
 use mathlib.Core.List.{List, [], flatten}
 use mathlib.Core.Logic.{inl, inr}
 use native.Mathlib.Decide.{decLt}
 use native.Mathlib.Nat.{suc-mul}
 use native.Mathlib.Omega.{arith}
 use borrow.Author.Tests.{lt-ltb, le-ltb}
-use lib.Dec.{ltb}
 use lib.ListN.{length, getD}
 use lib.Pow.{pow-pos, suc-ones, split}
 use Rattle.kinds.specs.Frame.{tickBits, ticks, tickOf, portOf, wordAt, inOrder}
 use Rattle.kinds.proofs.FrameLaws.{frame-whole, tick-lt, port-lt, word-lt, in-order-length, in-order-at}
-use Rattle.promise.specs.Series.{callAt, Series, wordsBefore, wordIn, CompletedIn}
+use Rattle.promise.specs.Series.{oneFrame, callAt, Series, wordsBefore, wordIn, CompletedIn}
 use Rattle.promise.proofs.SeriesLaws.{before-none, before-more, word-comes}
 
 module _ (n k : ℕ) (u : ℕ → ℕ) where
   abbrev T : ℕ
   T = ticks n k
 
-  abbrev pub one-frame : List (List ℕ)
-  one-frame = inOrder (2 * T) (λ c. cond (ltb c T) (inOrder (2 ^ k) (λ p. u (wordAt k c p))) [])
+  abbrev one-frame : List (List ℕ)
+  one-frame = oneFrame n k u
 
   pub one-frame-length : length one-frame ≡ 2 * T
   one-frame-length = in-order-length (2 * T) _

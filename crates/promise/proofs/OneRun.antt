@@ -1,6 +1,5 @@
 -- The run over one frame and then as many blank calls, from a fresh stand, where f and g are the maps for every frame.
---   fresh n k           a fresh stand, over zeros
---   is-fresh            it is one
+--   is-fresh            the fresh stand over zeros is one
 --   right-fits          where every run with the maps f and g is right for the order P, f and g fit P
 use Prim.Native.Nat.{ℕ, zero, suc, _+_, _-_, _*_, _^_, _<_, _≤_}
 use mathlib.Core.Path.{_≡_, refl, sym, ap, ap₂, _∙_}
@@ -34,11 +33,11 @@ use Rattle.run.proofs.StateLaws.{read-more, read-idle, next-blank, next-part, n
 use Rattle.run.proofs.CountLaws.{put-other, Different, put-in, apart}
 use Rattle.run.proofs.PlaceLaws.{places-at, places-length, places-clash, places-below}
 use Rattle.run.proofs.CallLaws.{call-given, call-done}
-use Rattle.promise.specs.Series.{callAt, Series, dueCall, Stand, Fresh, standing, outcomeOf, called, RightOver}
+use Rattle.promise.specs.Series.{callAt, Series, dueCall, Stand, Fresh, freshStand, oneFrame, standing, outcomeOf, called, RightOver}
 use Rattle.promise.specs.Passes.{BanksApart, Fits}
 use Rattle.promise.proofs.CountedLaws.{fresh-any}
 use Rattle.promise.proofs.RefusalLaws.{no-fault-none}
-use Rattle.promise.proofs.OneFrame.{one-frame, one-frame-length, came, came-at, some-came, blank-call, completed, word-in, one-frame-series}
+use Rattle.promise.proofs.OneFrame.{one-frame-length, came, came-at, some-came, blank-call, completed, word-in, one-frame-series}
 
 -- the state before call c of the frame, and before blank call c after it
 abbrev coming : ℕ → ℕ → State
@@ -106,27 +105,24 @@ zeros n = replicate (2 ^ (n + 1)) 0
 zeros-length : (n : ℕ) → length (zeros n) ≡ 2 ^ (n + 1)
 zeros-length n = length-replicate (2 ^ (n + 1)) 0
 
-abbrev pub fresh : ℕ → ℕ → Stand
-fresh n k = record { state = coming (ticks n k) 0; memory = record { words = zeros n; marks = zeros n } }
-
-pub is-fresh : (n k : ℕ) → Fresh n k (fresh n k)
+pub is-fresh : (n k : ℕ) → Fresh n k (freshStand n k)
 is-fresh n k = fresh-any (record { words = zeros n; marks = zeros n }) (zeros-length n) (λ j h. rw (all-zero j h) (omega arith)) (zeros-length n) all-zero
   where
     all-zero : AllZero (zeros n)
     all-zero j h = getD-replicate (2 ^ (n + 1)) j 0 0 (rw (zeros-length n) at h)
 
-module _ (n k : ℕ) (P f g u : ℕ → ℕ) (right : RightOver n k (λ F. P) (outcomeOf (called n k (λ F. f) (λ F. g) (one-frame n k u)) (fresh n k)) (one-frame n k u)) where
+module _ (n k : ℕ) (P f g u : ℕ → ℕ) (right : RightOver n k (λ F. P) (outcomeOf (called n k (λ F. f) (λ F. g) (oneFrame n k u)) (freshStand n k)) (oneFrame n k u)) where
   abbrev T : ℕ
   T = ticks n k
 
   abbrev S : List (List ℕ)
-  S = one-frame n k u
+  S = oneFrame n k u
 
   abbrev before : ℕ → Stand
-  before = standing (called n k (λ F. f) (λ F. g) S) (fresh n k)
+  before = standing (called n k (λ F. f) (λ F. g) S) (freshStand n k)
 
   abbrev outcome : ℕ → Outcome
-  outcome = outcomeOf (called n k (λ F. f) (λ F. g) S) (fresh n k)
+  outcome = outcomeOf (called n k (λ F. f) (λ F. g) S) (freshStand n k)
 
   module _ (j : ℕ) (h : j < 2 * T) where
     none-given : outcome j .refusal ≡ none
@@ -292,5 +288,5 @@ module _ (n k : ℕ) (P f g : ℕ → ℕ) (within : k ≤ n) (into : (i : ℕ) 
         ap f (only-it i j same) ∙ e;
   }
     where
-      over : (i : ℕ) → RightOver n k (λ F. P) (outcomeOf (called n k (λ F. f) (λ F. g) (one-frame n k (only i))) (fresh n k)) (one-frame n k (only i))
-      over i = right (fresh n k) (one-frame n k (only i)) (is-fresh n k) (one-frame-series n k (only i) within (λ j h. only-small i j))
+      over : (i : ℕ) → RightOver n k (λ F. P) (outcomeOf (called n k (λ F. f) (λ F. g) (oneFrame n k (only i))) (freshStand n k)) (oneFrame n k (only i))
+      over i = right (freshStand n k) (oneFrame n k (only i)) (is-fresh n k) (one-frame-series n k (only i) within (λ j h. only-small i j))

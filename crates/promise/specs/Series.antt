@@ -27,6 +27,9 @@
 --   called n k f g S j y     call j, where f F i is the cell to which word i of frame F is written, and g F q the cell that is read for its place q
 --   ticked e n k s S out j y     call j of the run as a tool, with the sheet s; out j is the out buffer that is lent
 --   standingOn e n k s x S j, outcomeOn e n k s x S j     the run of a sheet, which has M and N for every frame
+-- A run to look at, from fresh:
+--   freshStand n k           the fresh stand over zeros
+--   oneFrame n k u           a frame, whose word i is u i, tick by tick, and then as many blank ticks
 -- When it is right:
 --   IsFault o                the refusal o, if there is one, is 11, 12, 13 or 14
 --   Leaves o p w             in the call of which o comes a tick is handed out, with the word w at port p
@@ -36,11 +39,12 @@
 --   RightAsTool e n k C s    the same of the run as a tool, whatever out buffers of 2^k places are lent
 use Prim.Native.Nat.{ℕ, zero, suc, _+_, _-_, _*_, _/_, _^_, _<_, _≤_}
 use mathlib.Core.Path.{_≡_}
-use mathlib.Core.Bool.{true}
+use mathlib.Core.Bool.{true, cond}
 use mathlib.Core.List.{List, [], flatten}
 use mathlib.Core.Logic.{_⊎_}
 use mathlib.Core.Option.{Option, none, some}
-use lib.ListN.{length, getD, take}
+use lib.Dec.{ltb}
+use lib.ListN.{length, getD, take, replicate}
 use Rattle.kinds.specs.Edition.{Edition}
 use Rattle.kinds.specs.Frame.{ticks, tickOf, portOf, wordAt, inOrder}
 use Rattle.kinds.specs.Refusal.{given}
@@ -114,6 +118,14 @@ pub record Fresh (n k : ℕ) (x : Stand) : Type 0 where
   pub nothing-coming : x .state .a ≡ 0
   pub half : x .state .h ≡ 0
   pub idle : x .state .r ≡ ticks n k
+
+abbrev pub freshStand : ℕ → ℕ → Stand
+freshStand n k =
+    let zeros : List ℕ = replicate (2 ^ (n + 1)) 0 in
+    record { state = record { a = 0; h = 0; r = ticks n k }; memory = record { words = zeros; marks = zeros } }
+
+abbrev pub oneFrame : ℕ → ℕ → (ℕ → ℕ) → List (List ℕ)
+oneFrame n k u = inOrder (2 * ticks n k) (λ c. cond (ltb c (ticks n k)) (inOrder (2 ^ k) (λ p. u (wordAt k c p))) [])
 
 abbrev pub incoming : ℕ → List (List ℕ) → ℕ → ℕ
 incoming n S j = wordsBefore S j / 2 ^ n

@@ -2,4 +2,5 @@
 pub mod DecimalLaws
 pub mod ReadLaws
 pub mod RowLaws
+pub mod ToolLaws
 pub mod Cases

@@ -17,13 +17,13 @@ use Rattle.run.specs.Memory.{Memory, onto}
 use Rattle.run.specs.Tool.{stateAfter, ComesOf, Ticks}
 use Rattle.run.specs.declared.State.{State}
 use Rattle.run.specs.declared.Ticked.{Ticked}
-use Rattle.promise.specs.Series.{callAt, Series, wordIn, frame, tickIn, standing, outcomeOn, ticked}
+use Rattle.promise.specs.Series.{callAt, Series, wordIn, frame, tickIn, standing, outcomeOn, ticked, freshStand}
 use Rattle.promise.proofs.OneFrame.{one-frame-length, came, came-at, completed, word-in, one-frame-series}
-use Rattle.promise.proofs.OneRun.{fresh, is-fresh}
+use Rattle.promise.proofs.OneRun.{is-fresh}
 use Rattle.promise.proofs.ToolLaws.{tool-call}
 use Rattle.promise.proofs.RightLaws.{right-tick}
-use Rattle.trial.specs.Trial.{wordAtPlace, lampOrder}
-use Rattle.trial.specs.Inside.{trialCalls, leavesIn, handedOut, Here, Runnable}
+use Rattle.trial.specs.Trial.{trialCalls, wordAtPlace, lampOrder}
+use Rattle.trial.specs.Inside.{leavesIn, handedOut, Here, Runnable}
 use Rattle.trial.proofs.LampLaws.{lamp-moved}
 
 module _ {n k : ℕ} {s : List ℕ} (run : Runnable n k s) where
@@ -59,11 +59,11 @@ module _ {n k : ℕ} {s : List ℕ} (run : Runnable n k s) where
       ∙ sym (came-at n k (λ i. i) c p h l))
 
   call-comes : {j : ℕ} → j < 2 * T → {st : State} {ws ms out : List ℕ} {a : Ticked} {m : Memory} {left : List ℕ} → Here n k s j st ws ms → length out ≡ 2 ^ k
-      → Ticks edition1 n k s st (callAt S j) (record { words = ws; marks = ms }) out a m left → ComesOf (outcomeOn edition1 n k s (fresh n k) S j) st out a m left
+      → Ticks edition1 n k s st (callAt S j) (record { words = ws; marks = ms }) out a m left → ComesOf (outcomeOn edition1 n k s (freshStand n k) S j) st out a m left
   call-comes {j} h {out = out} here room goes =
       let reach : j < length S = rw whole h in
       let p = run .planned in
-      let comes = tool-call edition1 n k s S (λ i. out) (fresh n k) (run .sized) (p .places) (p .formed) (λ i l. room) (is-fresh n k) series j reach in
+      let comes = tool-call edition1 n k s S (λ i. out) (freshStand n k) (run .sized) (p .places) (p .formed) (λ i l. room) (is-fresh n k) series j reach in
       rw (ap (ticked edition1 n k s S (λ i. out) j) (here .stands) ∙ comes) at goes
 
   pub call-goes : {j : ℕ} → j < 2 * T → {st st' : State} {ts ws ms ws' ms' out left : List ℕ} {a : Ticked} → Here n k s j st ws ms → length out ≡ 2 ^ k → ts ≡ callAt S j
@@ -86,7 +86,7 @@ module _ {n k : ℕ} {s : List ℕ} (run : Runnable n k s) where
   tick-leaves {c} h =
       let then : T + c ≡ T - 1 + 1 + c = omega (arith, pow-pos (tickBits n k)) in
       ap (leavesIn n k s) then
-      ∙ right-tick within (run .order) (run .planned .right) (fresh n k) S (is-fresh n k) series (completed n k (λ i. i) within) h
+      ∙ right-tick within (run .order) (run .planned .right) (freshStand n k) S (is-fresh n k) series (completed n k (λ i. i) within) h
       (omega (arith, whole, pow-pos (tickBits n k))) lamps (rw words-in (lamp-moved (run .order)))
 
   pub handed-lamp : handedOut n k s ≡ lamps

@@ -22,7 +22,8 @@ use Rattle.run.specs.Tool.{stateAfter, Ticks}
 use Rattle.run.specs.declared.State.{State}
 use Rattle.run.specs.declared.Ticked.{Ticked}
 use Rattle.promise.specs.Series.{callAt}
-use Rattle.trial.specs.Inside.{trialCalls, leavesIn, Here, Runnable}
+use Rattle.trial.specs.Trial.{trialCalls}
+use Rattle.trial.specs.Inside.{leavesIn, Here, Runnable}
 use Rattle.trial.proofs.CallLaws.{call-goes}
 
 pub record Passing (n k : ℕ) (s f : List ℕ) (from : ℕ) (st : State) (ws ms : List ℕ) (ports at : ℕ) : Type 0 where

@@ -12,5 +12,5 @@ module _ (e : Edition) (n k : ℕ) (C s f : List ℕ) where
   pub tries-unique : (a b g h : List ℕ) (r q : Answer) → Tries e n k C s a f g r → Tries e n k C s b f h q → (r ≡ q) × ((a ≡ b) × (g ≡ h))
   tries-unique a b g h r q p o = (
     said-same r q (answers-same p o),
-    answers-agree p o (λ l u w. (u .0 .constructed ∙ sym (w .0 .constructed), u .1 ∙ sym (w .1))) (λ u w. (u .0 ∙ sym (w .0), u .1 ∙ sym (w .1))),
+    answers-agree p o (λ l u w. (u .planned .constructed ∙ sym (w .planned .constructed), u .frame ∙ sym (w .frame))) (λ u w. (u .0 ∙ sym (w .0), u .1 ∙ sym (w .1))),
   )

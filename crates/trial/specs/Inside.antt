@@ -1,5 +1,4 @@
 -- What the functions inside the crate promise one another.
---   trialCalls n k              the calls of a trial: words 0 to 2^n - 1, tick by tick, and then as many blank ticks
 --   standsAt n k s j            where the run of the sheet s stands before call j of the trial
 --   leavesIn n k s j            what it hands out in call j
 --   handedOut n k s             all that it hands out in the blank ticks, place by place
@@ -16,19 +15,15 @@ use Rattle.kinds.specs.Edition.{edition1, Sized}
 use Rattle.kinds.specs.Frame.{ticks, tickOf, portOf, inOrder}
 use Rattle.order.specs.Order.{Order}
 use Rattle.run.specs.declared.State.{State}
-use Rattle.promise.specs.Series.{Stand, standingOn, outcomeOn}
-use Rattle.promise.proofs.OneFrame.{one-frame}
-use Rattle.promise.proofs.OneRun.{fresh}
+use Rattle.promise.specs.Series.{Stand, freshStand, standingOn, outcomeOn}
 use Rattle.plan.specs.Tool.{IsPlanned}
-
-abbrev pub trialCalls : ℕ → ℕ → List (List ℕ)
-trialCalls n k = one-frame n k (λ i. i)
+use Rattle.trial.specs.Trial.{trialCalls}
 
 abbrev pub standsAt : ℕ → ℕ → List ℕ → ℕ → Stand
-standsAt n k s = standingOn edition1 n k s (fresh n k) (trialCalls n k)
+standsAt n k s = standingOn edition1 n k s (freshStand n k) (trialCalls n k)
 
 abbrev pub leavesIn : ℕ → ℕ → List ℕ → ℕ → List ℕ
-leavesIn n k s j = outcomeOn edition1 n k s (fresh n k) (trialCalls n k) j .leaving
+leavesIn n k s j = outcomeOn edition1 n k s (freshStand n k) (trialCalls n k) j .leaving
 
 abbrev pub handedOut : ℕ → ℕ → List ℕ → List ℕ
 handedOut n k s = inOrder (2 ^ n) (λ q. getD (leavesIn n k s (ticks n k + tickOf k q)) (portOf k q) 0)

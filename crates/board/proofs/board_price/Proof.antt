@@ -10,7 +10,7 @@ wrong-length-requires : tie.Need-wrong-length-requires
 wrong-length-requires c κs = search needs
 
 returns : tie.Need-returns
-returns c = record { lengths = besides-wrong (λ right. c .before .if1 .taken (right .0)) (c .wrong-length .ensures) refl }
+returns c = record { tool = besides-wrong (λ right. c .before .if1 .taken (right .0)) (c .wrong-length .ensures) refl }
 
 price-requires : tie.Need-price-requires
 price-requires c κs = search needs
@@ -31,14 +31,24 @@ same-length : tie.Need-same-length
 same-length c = search needs
 
 returns-2 : tie.Need-returns-2
-returns-2 c = record {
-  lengths = besides-right (omega (arith, c .before .before .before .before .before .before .before .before .if1 .left), tt) (c .before .before .before .before .before .before .before .price .result, c .before .before .before .before .before .before .before .price .ensures, rw (c .before .before .before .before .before .priced .given .1) refl, rw (c .before .before .before .before .before .priced .given .1) (c .before .before .put-three .ensures));
-}
+returns-2 c =
+    let arm = c .before .before .before .before .before in
+    let priced = arm .before .before in
+    record {
+      tool =
+          besides-right (omega (arith, priced .before .if1 .left), tt)
+          (priced .price .result, priced .price .ensures, rw (arm .priced .given .1) refl, rw (arm .priced .given .1) (c .before .before .put-three .ensures));
+    }
 
 returns-3 : tie.Need-returns-3
-returns-3 c = record {
-  lengths = besides-right (omega (arith, c .before .before .before .before .before .if1 .left), tt) (c .before .before .before .before .price .result, c .before .before .before .before .price .ensures, rw (c .before .before .priced2 .given .1) (c .number .ensures), rw (c .before .before .priced2 .given .1) refl);
-}
+returns-3 c =
+    let arm = c .before .before in
+    let priced = arm .before .before in
+    record {
+      tool =
+          besides-right (omega (arith, priced .before .if1 .left), tt)
+          (priced .price .result, priced .price .ensures, rw (arm .priced2 .given .1) (c .number .ensures), rw (arm .priced2 .given .1) refl);
+    }
 
 pub board-price-spec : {M : Type 1} → statement M
 board-price-spec =

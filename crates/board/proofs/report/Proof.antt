@@ -11,12 +11,12 @@ use Rattle.board.proofs.PlaceLaws.{three-places, first-set}
 use Rattle.board.proofs.report.Statement.{statement}
 use Rattle.board.proofs.report.Tie as tie
 
-enum-known-ticked : tie.Need-enum-known-ticked
-enum-known-ticked c = search needs
-
 told : (l : List ℕ) (handed : Bool) → 1 ≤ length l → set l 0 (boolByte handed) ≡ cond handed 1 0 ∷ drop 1 l
 told l true h = first-set l h
 told l false h = first-set l h
+
+enum-known-ticked : tie.Need-enum-known-ticked
+enum-known-ticked c = search needs
 
 put-three-requires : tie.Need-put-three-requires
 put-three-requires c κs = search needs
@@ -44,10 +44,12 @@ same-length-2 c = search needs
 
 returns : tie.Need-returns
 returns c =
-    rw (c .before .before .before .before .before .ticked .given .1) (record {
+    let arm = c .before .before .before .before .before in
+    let start = arm .before .before .before .before in
+    rw (arm .ticked .given .1) (record {
       number = refl;
       state = c .before .before .put-three .ensures;
-      said = told (c .before .before .before .before .before .before .before .before .before .args .said .now) (c .before .before .before .before .before .ticked .given .0 .1 .0) (omega (arith, c .before .before .before .before .before .before .before .before .before .pre .1));
+      said = told (start .args .said .now) (arm .ticked .given .0 .1 .0) (omega (arith, start .pre .1));
     })
 
 same-length-3 : tie.Need-same-length-3
@@ -55,8 +57,13 @@ same-length-3 c = search needs
 
 returns-2 : tie.Need-returns-2
 returns-2 c =
-    rw (c .before .before .before .before .before .before .ticked2 .given .1)
-    (record { number = c .number .ensures; state = sym (three-places (c .before .before .before .before .before .before .before .before .before .before .args .state .now) (c .before .before .before .before .before .before .before .before .before .before .pre .0)); said = c .before .before .before .name-ports .ensures })
+    let arm = c .before .before .before .before .before .before in
+    let start = arm .before .before .before .before in
+    rw (arm .ticked2 .given .1) (record {
+      number = c .number .ensures;
+      state = sym (three-places (start .args .state .now) (start .pre .0));
+      said = c .before .before .before .name-ports .ensures;
+    })
 
 pub report-spec : {M : Type 1} → statement M
 report-spec =

@@ -1,7 +1,6 @@
 -- `board::wrong_length` meets its contract.
 use mathlib.Core.Path.{sym, ap, _∙_}
 use borrow.Author.Needs.{needs}
-use borrow.Author.Tests.{not-true}
 use Rattle.kinds.specs.Refusal.{given}
 use Rattle.kinds.proofs.LowestLaws.{lowest-take, lowest-skip}
 use Rattle.kinds.proofs.TruthLaws.{denied}

@@ -1,6 +1,5 @@
 -- `card::lent_right` meets its contract.
 use native.Mathlib.Omega.{arith}
-use borrow.Author.Needs.{needs}
 use borrow.Author.Tests.{eqb-true, eq-eqb}
 use Rattle.kinds.proofs.TruthLaws.{says-no}
 use Rattle.card.proofs.lent_right.Statement.{statement}

@@ -17,8 +17,6 @@ use Rattle.sheet.specs.Table.{sheetLengths}
 use Rattle.run.proofs.PartLaws.{part-length, part-back}
 use Rattle.plan.specs.Planned.{plannedSheet}
 use Rattle.trial.specs.Trial.{lampOrder}
-use Rattle.card.specs.Listing.{listing}
-use Rattle.card.specs.Inside.{Tried, trialText}
 use Rattle.card.proofs.RoomLaws.{listing-fits}
 use Rattle.card.proofs.TrialLaws.{planned-tried, planned-text}
 use Rattle.card.proofs.list_order.Statement.{statement}
@@ -77,10 +75,10 @@ module _ (c : tie.After-trial) where
       (c .trial .ensures)
 
   planned : sheet ≡ plannedSheet edition1 (n called) (k called) (C called)
-  planned = c .trial .ensures .done (ap said done) .0 .constructed
+  planned = c .trial .ensures .done (ap said done) .planned .constructed
 
   lamps : frame ≡ lampOrder (n called) (C called)
-  lamps = c .trial .ensures .done (ap said done) .1
+  lamps = c .trial .ensures .done (ap said done) .frame
 
   frame-length : length frame ≡ room
   frame-length = ap length lamps ∙ in-order-length (2 ^ n called) _ ∙ sym (words called)

@@ -1,5 +1,5 @@
 -- `card::print` meets its contract.
-use Prim.Native.Nat.{ℕ, _≤_}
+use Prim.Native.Nat.{ℕ}
 use mathlib.Core.Path.{_≡_, refl, sym, ap, _∙_}
 use mathlib.Core.List.{List, [], _∷_}
 use mathlib.Core.Option.{Option, none}
@@ -9,15 +9,14 @@ use mir.Facts.{fits-widen}
 use lib.ListN.{length, getD, take}
 use Rattle.kinds.specs.Edition.{edition1}
 use Rattle.kinds.specs.Lowest.{lowest}
-use Rattle.kinds.specs.Refusal.{said, numberOf}
+use Rattle.kinds.specs.Refusal.{said}
 use Rattle.kinds.specs.declared.Refusal.{Refusal}
 use Rattle.text.specs.Decimal.{codes}
 use Rattle.run.specs.Memory.{onto}
 use Rattle.card.specs.Card.{cardTable}
-use Rattle.card.specs.Listing.{line, refusalLine}
+use Rattle.card.specs.Listing.{line}
 use Rattle.card.specs.Tool.{room, listLengths, textFor}
 use Rattle.card.proofs.ListLaws.{lengths-right, refusal-short, prints-by}
-use Rattle.card.proofs.WriteLaws.{writes-onto}
 use Rattle.card.proofs.print.Statement.{statement}
 use Rattle.card.proofs.print.Tie as tie
 

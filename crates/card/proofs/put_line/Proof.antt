@@ -2,7 +2,7 @@
 use native.Mathlib.Omega.{arith}
 use borrow.Author.Needs.{needs}
 use lib.ListN.{length-append}
-use Rattle.card.specs.Inside.{ending}
+use Rattle.card.specs.Listing.{lineEnd}
 use Rattle.card.proofs.WriteLaws.{writes-then}
 use Rattle.card.proofs.put_line.Statement.{statement}
 use Rattle.card.proofs.put_line.Tie as tie
@@ -10,13 +10,13 @@ use Rattle.card.proofs.put_line.Tie as tie
 put-bytes-requires : tie.Need-put-bytes-requires
 put-bytes-requires c κs =
     let start = c .before .before .before .before in
-    omega (arith, start .pre, length-append (start .args .name .now) (ending (start .args .numbers .now)))
+    omega (arith, start .pre, length-append (start .args .name .now) (lineEnd (start .args .numbers .now)))
 
 put-numbers-requires : tie.Need-put-numbers-requires
 put-numbers-requires c κs =
     let named = c .before .before .before in
     let start = named .before .before .before .before .before in
-    omega (arith, named .put-bytes, start .pre, length-append (start .args .name .now) (ending (start .args .numbers .now)))
+    omega (arith, named .put-bytes, start .pre, length-append (start .args .name .now) (lineEnd (start .args .numbers .now)))
 
 same-length : tie.Need-same-length
 same-length c = search needs

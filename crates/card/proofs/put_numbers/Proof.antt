@@ -7,14 +7,15 @@ use native.Mathlib.Omega.{arith}
 use borrow.Author.Needs.{needs}
 use lib.ListN.{length, getD, drop, set, length-append, length-set}
 use Rattle.text.specs.Decimal.{decimal}
-use Rattle.card.specs.Inside.{Writes, ending}
+use Rattle.card.specs.Listing.{lineEnd}
+use Rattle.card.specs.Inside.{Writes}
 use Rattle.card.proofs.WriteLaws.{Left, writes-byte, left-all, left-more, left-done}
 use Rattle.card.proofs.LineLaws.{ending-more, ending-done}
 use Rattle.card.proofs.put_numbers.Statement.{statement}
 use Rattle.card.proofs.put_numbers.Tie as tie
 
 record Writing (ns : List ℕ) (at : ℕ) (text₀ text : List ℕ) (place i : ℕ) : Type 0 where
-  left : Left (ending ns) at text₀ (ending (drop i ns)) place text
+  left : Left (lineEnd ns) at text₀ (lineEnd (drop i ns)) place text
 
 module _ {ns : List ℕ} {at : ℕ} {text₀ text : List ℕ} {place i : ℕ} (w : Writing ns at text₀ text place i) where
   module _ (h : i < length ns) where
@@ -22,9 +23,9 @@ module _ {ns : List ℕ} {at : ℕ} {text₀ text : List ℕ} {place i : ℕ} (w
     number = decimal (getD ns i 0)
 
     abbrev others : List ℕ
-    others = ending (drop (i + 1) ns)
+    others = lineEnd (drop (i + 1) ns)
 
-    here : ending (drop i ns) ≡ code " " ∷ (number ++ others)
+    here : lineEnd (drop i ns) ≡ code " " ∷ (number ++ others)
     here = ending-more ns i h
 
     room : place + 1 + length number ≤ length text
@@ -34,13 +35,13 @@ module _ {ns : List ℕ} {at : ℕ} {text₀ text : List ℕ} {place i : ℕ} (w
     more wrote = record { left = left-more (left-more (w .left) here writes-byte) refl wrote }
 
   module _ (h : length ns ≤ i) where
-    newline : ending (drop i ns) ≡ code "\n" ∷ []
+    newline : lineEnd (drop i ns) ≡ code "\n" ∷ []
     newline = ending-done ns i h
 
     last : place < length text
     last = omega (arith, w .left, ap length newline)
 
-    done : Writes (ending ns) at text₀ (set text place (code "\n")) (place + 1)
+    done : Writes (lineEnd ns) at text₀ (set text place (code "\n")) (place + 1)
     done = left-done (left-more (w .left) newline writes-byte) refl
 
 abbrev Inv-loop : tie.InvT-loop

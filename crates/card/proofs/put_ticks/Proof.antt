@@ -10,7 +10,8 @@ use lib.ListN.{length, take, drop, length-append}
 use lib.Pow.{pow-pos, pow-mono, shr-le}
 use Rattle.text.specs.Decimal.{decimal}
 use Rattle.promise.specs.Series.{tickIn}
-use Rattle.card.specs.Inside.{Writes, ending, tickLines, Frames}
+use Rattle.card.specs.Listing.{lineEnd}
+use Rattle.card.specs.Inside.{Writes, tickLines, Frames}
 use Rattle.card.proofs.WriteLaws.{Left, left-all, left-more, left-done}
 use Rattle.card.proofs.LineLaws.{ticksFrom, ticks-more, ticks-done, tick-part}
 use Rattle.card.proofs.put_ticks.Statement.{statement}
@@ -38,7 +39,7 @@ module _ {k : ℕ} {l : List ℕ} {at : ℕ} {text₀ text : List ℕ} {ports pl
     few = omega (arith, tick, shr-le (length l) k)
 
     abbrev rest : List ℕ
-    rest = ending (tickIn k l c) ++ ticksFrom k l (c + 1)
+    rest = lineEnd (tickIn k l c) ++ ticksFrom k l (c + 1)
 
     this : ticksFrom k l c ≡ decimal c ++ (code ":" ∷ rest)
     this = ticks-more k l c tick
@@ -46,13 +47,13 @@ module _ {k : ℕ} {l : List ℕ} {at : ℕ} {text₀ text : List ℕ} {ports pl
     part : take (end - start) (drop start l) ≡ tickIn k l c
     part = tick-part k l c (w .begins) (omega (arith, w .ends, w .words)) h
 
-    room : place + length (decimal c) + 1 + length (ending (take (end - start) (drop start l))) ≤ length text
+    room : place + length (decimal c) + 1 + length (lineEnd (take (end - start) (drop start l))) ≤ length text
     room =
         rw part
-        (omega (arith, w .left, ap length this, length-append (decimal c) (code ":" ∷ rest), length-append (ending (tickIn k l c)) (ticksFrom k l (c + 1))))
+        (omega (arith, w .left, ap length this, length-append (decimal c) (code ":" ∷ rest), length-append (lineEnd (tickIn k l c)) (ticksFrom k l (c + 1))))
 
     more : {x y z : List ℕ} {p q r : ℕ} → Writes (decimal c) place text x p → Writes (code ":" ∷ []) p x y q
-        → Writes (ending (take (end - start) (drop start l))) q y z r → Writing k l at text₀ z ports r (c + 1) end (end + ports)
+        → Writes (lineEnd (take (end - start) (drop start l))) q y z r → Writing k l at text₀ z ports r (c + 1) end (end + ports)
     more label colon numbers = record {
       frames = w .frames;
       words = w .words;

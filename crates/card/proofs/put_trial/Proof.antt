@@ -66,25 +66,54 @@ slice-aggregate-put-side c = search needs
 
 put-side-requires : tie.Need-put-side-requires
 unfolding codes
-put-side-requires c κs = (c .before .before .before .before .before .before .before .before .before .before .before .before .before .pre .0 .write, omega (arith, c .before .before .before .before .put-line .ensures .next, c .before .before .before .before .put-line .kept .0, room (c .before .before .before .before .before .before .before .before .before .before .before .before .before)))
+put-side-requires c κs =
+    let ordered = c .before .before .before .before in
+    let start = ordered .before .before .before .before .before .before .before .before .before in
+    (start .pre .0 .write, omega (arith, ordered .put-line .ensures .next, ordered .put-line .kept .0, room start))
 
 slice-aggregate-put-side-2 : tie.Need-slice-aggregate-put-side-2
 slice-aggregate-put-side-2 c = search needs
 
 put-side-requires-2 : tie.Need-put-side-requires-2
 unfolding codes
-put-side-requires-2 c κs = (c .before .before .before .before .before .before .before .before .before .before .before .before .before .before .before .before .before .before .pre .0 .read, omega (arith, c .before .before .before .before .put-side .ensures .next, c .before .before .before .before .put-side .kept .0, c .before .before .before .before .before .before .before .before .before .put-line .ensures .next, c .before .before .before .before .before .before .before .before .before .put-line .kept .0, room (c .before .before .before .before .before .before .before .before .before .before .before .before .before .before .before .before .before .before)))
+put-side-requires-2 c κs =
+    let written = c .before .before .before .before in
+    let ordered = written .before .before .before .before .before in
+    let start = ordered .before .before .before .before .before .before .before .before .before in (
+      start .pre .0 .read,
+      omega (arith, written .put-side .ensures .next, written .put-side .kept .0, ordered .put-line .ensures .next, ordered .put-line .kept .0, room start),
+    )
 
 put-ticks-requires : tie.Need-put-ticks-requires
 unfolding codes
-put-ticks-requires c κs = (c .before .before .before .before .before .before .before .before .before .before .before .before .before .before .before .before .before .before .before .before .before .before .pre .0 .frame, omega (arith, c .before .before .before .put-side2 .ensures .next, c .before .before .before .put-side2 .kept .0, c .before .before .before .before .before .before .before .before .put-side .ensures .next, c .before .before .before .before .before .before .before .before .put-side .kept .0, c .before .before .before .before .before .before .before .before .before .before .before .before .before .put-line .ensures .next, c .before .before .before .before .before .before .before .before .before .before .before .before .before .put-line .kept .0, room (c .before .before .before .before .before .before .before .before .before .before .before .before .before .before .before .before .before .before .before .before .before .before)))
+put-ticks-requires c κs =
+    let read = c .before .before .before in
+    let written = read .before .before .before .before .before in
+    let ordered = written .before .before .before .before .before in
+    let start = ordered .before .before .before .before .before .before .before .before .before in (
+      start .pre .0 .frame,
+      omega (
+        arith,
+        read .put-side2 .ensures .next,
+        read .put-side2 .kept .0,
+        written .put-side .ensures .next,
+        written .put-side .kept .0,
+        ordered .put-line .ensures .next,
+        ordered .put-line .kept .0,
+        room start,
+      ),
+    )
 
 same-length : tie.Need-same-length
 same-length c = search needs
 
 returns : tie.Need-returns
 unfolding codes
-returns c = writes-then (c .before .before .before .before .before .before .before .before .before .before .before .before .before .before .before .before .put-line .ensures) (writes-then (c .before .before .before .before .before .before .before .before .before .before .before .put-side .ensures) (writes-then (c .before .before .before .before .before .before .put-side2 .ensures) (c .before .before .put-ticks .ensures)))
+returns c =
+    let read = c .before .before .before .before .before .before in
+    let written = read .before .before .before .before .before in
+    writes-then (written .before .before .before .before .before .put-line .ensures)
+    (writes-then (written .put-side .ensures) (writes-then (read .put-side2 .ensures) (c .before .before .put-ticks .ensures)))
 
 pub put-trial-spec : {M : Type 1} → statement M
 put-trial-spec =

@@ -14,7 +14,8 @@ use Rattle.run.specs.Tool.{stateAfter, Ticks}
 use Rattle.run.specs.declared.State.{State}
 use Rattle.run.specs.declared.Ticked.{Ticked}
 use Rattle.promise.specs.Series.{callAt, standing}
-use Rattle.trial.specs.Inside.{trialCalls, Entering}
+use Rattle.trial.specs.Trial.{trialCalls}
+use Rattle.trial.specs.Inside.{Entering}
 use Rattle.trial.proofs.CallLaws.{part-comes}
 use Rattle.trial.proofs.PassingLaws.{Passing, passing-start, passing-left, passing-fits, passing-more, passing-done}
 use Rattle.trial.proofs.take_in.Statement.{statement}

@@ -23,7 +23,7 @@ use Rattle.plan.specs.Tool.{IsPlanned}
 use Rattle.plan.proofs.ToolLaws.{plans-done}
 use Rattle.trial.specs.Trial.{trialTable}
 use Rattle.trial.specs.Inside.{Runnable}
-use Rattle.trial.proofs.CallLaws.{handed-lamp}
+use Rattle.trial.proofs.CallLaws.{tick-leaves, handed-lamp}
 use Rattle.trial.proofs.trial.Statement.{statement}
 use Rattle.trial.proofs.trial.Tie as tie
 
@@ -106,7 +106,8 @@ same-length-2 c = search needs
 returns-2 : tie.Need-returns-2
 returns-2 c =
     let it = c .before .before .before .before .before .before .before .before .before .before .before in
-    does (done it) (says (at it)) (planned it, c .before .before .run-frame .ensures ∙ handed-lamp (run it))
+    let lamps = c .before .before .run-frame .ensures ∙ handed-lamp (run it) in
+    does (done it) (says (at it)) (record { planned = planned it; frame = lamps; run = λ c h. rw lamps (sym (tick-leaves (run it) h)) })
 
 pub trial-spec : {M : Type 1} → statement M
 trial-spec =

@@ -1,17 +1,17 @@
 // The order card, and the text of a listing (01, 'The order card').
 ghost use mathlib.Core.Path.{_≡_};
 ghost use mathlib.Core.List.{[], _∷_};
+ghost use Prim.Native.Nat.{_≤_, min};
 ghost use lib.ListN.{length};
 ghost use Rattle.kinds.specs.Answers.{Says};
 ghost use Rattle.kinds.specs.Edition.{edition1};
 ghost use Rattle.kinds.specs.Reasons.{RightLengths};
 ghost use Rattle.text.specs.Decimal.{decimal};
+ghost use Rattle.sheet.specs.Sheet.{paddedTo};
+ghost use Rattle.card.specs.Card.{Reads};
 ghost use Rattle.card.specs.Listing.{lineEnd, line, listing};
 ghost use Rattle.card.specs.Tool.{room, Lists, Prints};
-ghost use Rattle.card.specs.Card.{Reads};
 ghost use Rattle.card.specs.Inside.{Unread, Further, ReadsColumns, Fits, Writes, counted, Counted, tickLines, Frames, Tried, trialText, Listable};
-ghost use Rattle.sheet.specs.Sheet.{paddedTo};
-ghost use Prim.Native.Nat.{_≤_, min};
 use kinds::Answer;
 use kinds::Refusal;
 use text::Thing;

@@ -9,8 +9,8 @@
  * a pointer or changes anything but the buffers it is lent; each may be called from several threads on different
  * buffers. board_list keeps some 16 KB on the stack, the others far less.
  * Every buffer is the caller's, and is lent for the call: a pointer, and after it the number of its elements (not bytes).
- * Buffers of one call that are not const overlap no other buffer of that call. A pointer of a buffer with no elements
- * is never read and may be anything but NULL.
+ * Buffers of one call that are not const overlap no other buffer of that call. A buffer with no elements is
+ * never read, but its pointer must not be NULL: on a blank tick pass any array of words, with length 0.
  *
  * Every function returns 0 or the number of a refusal, the lowest that applies, except that 15 comes before all.
  * On a refusal every buffer is as it was lent, but for the two ports that board_tick names.

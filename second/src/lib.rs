@@ -1,4 +1,4 @@
-//! A second program, written from the paper alone, that compares the board with its own model of the same tools.
+//! A second program, written from the paper and not from the board's sources, that compares the board with its own model of the same tools.
 //!
 //! Read top to bottom:
 //! `model` is every tool in the plainest way that follows the paper's sentences,

@@ -7,14 +7,14 @@ use mathlib.Core.Path.{_≡_}
 use mathlib.Core.List.{List, [], _∷_, _++_}
 use lib.ListN.{length, take, drop}
 use Rattle.kinds.specs.Edition.{Edition, sized?}
-use Rattle.kinds.specs.Lowest.{lowest}
+use Rattle.kinds.specs.First.{firstOf}
 use Rattle.kinds.specs.Reasons.{RightLengths, outside, wrongLength}
 use Rattle.kinds.specs.Refusal.{given, valuesOf}
 use Rattle.kinds.specs.declared.Refusal.{Refusal}
 use Rattle.run.specs.Memory.{onto}
 
 abbrev pub WrongLength : Edition → ℕ → ℕ → ℕ → Type 0
-WrongLength e n k r = (l : List (ℕ × ℕ)) → ¬ RightLengths l → r ≡ given (lowest (outside (sized? e n k) ∷ wrongLength l ∷ []))
+WrongLength e n k r = (l : List (ℕ × ℕ)) → ¬ RightLengths l → r ≡ given (firstOf (outside (sized? e n k) ∷ wrongLength l ∷ []))
 
 abbrev pub Three : List ℕ → Type 0
 Three l = length l ≡ 3

@@ -15,7 +15,7 @@ use mathlib.Core.Bool.{cond}
 use mathlib.Core.List.{List, [], _∷_, _++_}
 use lib.ListN.{length, getD, take, drop}
 use Rattle.kinds.specs.Edition.{Edition, sized?}
-use Rattle.kinds.specs.Lowest.{lowest}
+use Rattle.kinds.specs.First.{firstOf}
 use Rattle.kinds.specs.Reasons.{RightLengths, outside, wrongLength}
 use Rattle.kinds.specs.Refusal.{said, given, valuesOf}
 use Rattle.kinds.specs.declared.Answer.{Answer}
@@ -33,7 +33,7 @@ Numbers T r = (a : Answer) × T a × (r ≡ given (said a))
 
 pub record Besides (e : Edition) (n k : ℕ) (l : List (ℕ × ℕ)) (r : ℕ) (T K : Type 0) : Type 0 where
   pub right : RightLengths l → T
-  pub wrong : ¬ RightLengths l → (r ≡ given (lowest (outside (sized? e n k) ∷ wrongLength l ∷ []))) × K
+  pub wrong : ¬ RightLengths l → (r ≡ given (firstOf (outside (sized? e n k) ∷ wrongLength l ∷ []))) × K
 
 abbrev pub stateIn : List ℕ → State
 stateIn l = record { a = getD l 0 0; h = getD l 1 0; r = getD l 2 0 }

@@ -18,7 +18,7 @@ use Rattle.kinds.specs.declared.Answer.{Answer}
 use Rattle.kinds.specs.declared.Answer.the-variants.{Done, Refused}
 use Rattle.kinds.specs.declared.Refusal.the-variants.{Card}
 use Rattle.kinds.proofs.AnswerLaws.{said-same}
-use Rattle.kinds.proofs.LowestLaws.{lowest-take, lowest-skip, lowest-nil}
+use Rattle.kinds.proofs.FirstLaws.{first-take, first-skip, first-nil}
 use Rattle.text.specs.Decimal.{decimal}
 use Rattle.text.specs.Numbers.{ending, row, Row, Begins}
 use Rattle.text.proofs.DecimalLaws.{decimal-some}
@@ -66,7 +66,7 @@ module _ {b : List ℕ} where
   pub reads-card : {n k count : ℕ} {C columns : List ℕ} → IsCard b (n ∷ k ∷ C) → columns ≡ paddedTo mostColumns C → count ≡ length C
       → Reads b (record { answer = Done; n = n; k = k; columns = columns; count = count })
   reads-card {n} {k} {C = C} is same many = let e = is-card is in record {
-    answer = sym (lowest-skip (unreadable b) [] (λ not. not (n ∷ k ∷ C, is)) ∙ lowest-nil);
+    answer = sym (first-skip (unreadable b) [] (λ not. not (n ∷ k ∷ C, is)) ∙ first-nil);
     n = rw e refl;
     k = rw e refl;
     columns = rw e same;
@@ -76,7 +76,7 @@ module _ {b : List ℕ} where
   pub reads-none : ¬ ((ns : List ℕ) × IsCard b ns)
       → Reads b (record { answer = Refused Card; n = 0; k = 0; columns = paddedTo mostColumns []; count = 0 })
   reads-none not = let e = no-card not in record {
-    answer = sym (lowest-take (unreadable b) [] not);
+    answer = sym (first-take (unreadable b) [] not);
     n = rw e refl;
     k = rw e refl;
     columns = rw e refl;

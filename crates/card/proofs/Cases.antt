@@ -9,7 +9,7 @@ use lib.Count.{ones}
 use lib.ListN.{replicate}
 use Rattle.kinds.specs.Edition.{edition1, sized?}
 use Rattle.kinds.specs.Frame.{inOrder}
-use Rattle.kinds.specs.Lowest.{lowest}
+use Rattle.kinds.specs.First.{firstOf}
 use Rattle.kinds.specs.Reasons.{rightLengths?}
 use Rattle.kinds.specs.Search.{someBelow, those}
 use Rattle.bits.specs.Image.{image, columns}
@@ -32,7 +32,7 @@ unfolding image columns ℕ-discrete sumOf? someBelow those keptAt others mask m
 planned = tt
 
 computed : Unit {0}
-unfolding planned codes decimalIn row row? card? decLe lowest sized? rightLengths? independent? spaced flatten
+unfolding planned codes decimalIn row row? card? decLe firstOf sized? rightLengths? independent? spaced flatten
 computed = tt
 
 abbrev prints : String → List ℕ

@@ -12,11 +12,11 @@ use mathlib.Core.List.{List, [], _∷_, _++_}
 use native.Mathlib.Omega.{arith}
 use lib.ListN.{length, take, set, length-append}
 use Rattle.kinds.specs.Edition.{edition1, sized?}
-use Rattle.kinds.specs.Lowest.{lowest}
+use Rattle.kinds.specs.First.{firstOf}
 use Rattle.kinds.specs.Reasons.{RightLengths}
 use Rattle.kinds.specs.Refusal.{said}
 use Rattle.kinds.specs.declared.Answer.the-variants.{Done}
-use Rattle.kinds.proofs.LowestLaws.{lowest-none, lowest-skip, lowest-alike}
+use Rattle.kinds.proofs.FirstLaws.{first-none, first-skip, first-alike}
 use Rattle.text.specs.Decimal.{codes, decimal}
 use Rattle.text.proofs.DecimalLaws.{decimal-length}
 use Rattle.order.specs.Table.{orderTable}
@@ -37,20 +37,20 @@ module _ {b : List ℕ} {R : Reading} (reads : Reads b R) where
   columns-read = rw (reads .columns) (padded-part mostColumns (columnsOn b) (R .count) (reads .count))
 
   module _ (readable : R .answer ≡ Done) (others : List (ℕ × ℕ)) where
-    pub order-on-card : lowest (orderTable (sized? edition1 (R .n) (R .k)) (R .n) (read R) others) ≡ lowest (cardTable edition1 b others)
+    pub order-on-card : firstOf (orderTable (sized? edition1 (R .n) (R .k)) (R .n) (read R) others) ≡ firstOf (cardTable edition1 b others)
     order-on-card =
         rw (reads .n, reads .k, columns-read) refl
-        ∙ sym (lowest-skip (unreadable b) _ (lowest-none (unreadable b ∷ []) .0 (sym (reads .answer) ∙ ap said readable) .0))
+        ∙ sym (first-skip (unreadable b) _ (first-none (unreadable b ∷ []) .0 (sym (reads .answer) ∙ ap said readable) .0))
 
   pub listed-read : listing (R .n) (R .k) (read R) ≡ listed b
   listed-read = rw (reads .n, reads .k, columns-read) refl
 
 module _ (b : List ℕ) (others : List (ℕ × ℕ)) (right : RightLengths others) where
-  pub lengths-right : lowest (cardTable edition1 b others) ≡ lowest (cardTable edition1 b [])
+  pub lengths-right : firstOf (cardTable edition1 b others) ≡ firstOf (cardTable edition1 b [])
   lengths-right =
-      lowest-alike _ _ _ _ refl (λ a. a, λ a. a)
-      (lowest-alike _ _ _ _ refl (λ a. a, λ a. a)
-      (lowest-alike _ _ _ _ refl (λ wrong r. wrong (r .0, right), λ wrong r. wrong (r .0, tt)) refl))
+      first-alike _ _ _ _ refl (λ a. a, λ a. a)
+      (first-alike _ _ _ _ refl (λ a. a, λ a. a)
+      (first-alike _ _ _ _ refl (λ wrong r. wrong (r .0, right), λ wrong r. wrong (r .0, tt)) refl))
 
 pub refusal-short : (x : ℕ) → x < 2 ^ 32 → length (line (codes "refused") (x ∷ [])) ≤ 19
 unfolding codes spaced

@@ -16,7 +16,7 @@ use native.Mathlib.Decide.{decLe}
 use lib.ListN.{length, getD, drop}
 use Rattle.kinds.specs.Decided.{both}
 use Rattle.kinds.specs.Edition.{Edition, sized?}
-use Rattle.kinds.specs.Lowest.{Reason, unless, lowest}
+use Rattle.kinds.specs.First.{Reason, unless, firstOf}
 use Rattle.kinds.specs.Refusal.{said}
 use Rattle.kinds.specs.declared.Refusal.the-variants.{Card}
 use Rattle.text.specs.Numbers.{Row}
@@ -66,7 +66,7 @@ abbrev pub mostColumns : ℕ
 mostColumns = longest / 2 - 2
 
 pub record Reads (b : List ℕ) (r : Reading) : Type 0 where
-  pub answer : said (r .answer) ≡ lowest (unreadable b ∷ [])
+  pub answer : said (r .answer) ≡ firstOf (unreadable b ∷ [])
   pub n : r .n ≡ nOn b
   pub k : r .k ≡ kOn b
   pub columns : r .columns ≡ paddedTo mostColumns (columnsOn b)

@@ -14,7 +14,7 @@ use mathlib.Core.Option.{Option, none, some}
 use lib.ListN.{length}
 use Rattle.kinds.specs.Answers.{Answers}
 use Rattle.kinds.specs.Edition.{Edition}
-use Rattle.kinds.specs.Lowest.{lowest}
+use Rattle.kinds.specs.First.{firstOf}
 use Rattle.kinds.specs.Refusal.{said}
 use Rattle.kinds.specs.declared.Answer.{Answer}
 use Rattle.kinds.specs.declared.Refusal.{Refusal}
@@ -40,7 +40,7 @@ textFor none b = listed b
 textFor (some x) b = refusalLine x
 
 abbrev pub printed : Edition → List ℕ → List ℕ
-printed e b = textFor (lowest (cardTable e b [])) b
+printed e b = textFor (firstOf (cardTable e b [])) b
 
 pub record Prints (e : Edition) (b t t' : List ℕ) (r : ℕ) : Type 0 where
   pub length-of : r ≡ length (printed e b)

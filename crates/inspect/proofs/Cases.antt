@@ -8,7 +8,7 @@ use lib.Count.{ones}
 use lib.ListN.{set}
 use Rattle.kinds.specs.Edition.{edition1, sized?}
 use Rattle.kinds.specs.Refusal.{given}
-use Rattle.kinds.specs.Lowest.{lowest}
+use Rattle.kinds.specs.First.{firstOf}
 use Rattle.kinds.specs.Reasons.{rightLengths?}
 use Rattle.kinds.specs.Search.{someBelow, eachBelow}
 use Rattle.bits.specs.Image.{image, allBelow?}
@@ -23,11 +23,11 @@ use Rattle.promise.proofs.Cases.{gray, identity, turning, one-tick}
 use Rattle.inspect.specs.Tool.{inspectTable}
 
 computed : Unit {0}
-unfolding lowest ℕ-discrete sized? rightLengths? someBelow eachBelow decLe decLt image allBelow? parity dot ones bijection? independent? stagesIn fromTo? stageInRange? eachStage? inRange? allZero? formedSide? wellFormed? afterStages
+unfolding firstOf ℕ-discrete sized? rightLengths? someBelow eachBelow decLe decLt image allBelow? parity dot ones bijection? independent? stagesIn fromTo? stageInRange? eachStage? inRange? allZero? formedSide? wellFormed? afterStages
 computed = tt
 
 abbrev verdict : ℕ × ℕ × List ℕ × List ℕ → ℕ
-verdict (n, k, C, s) = given (lowest (inspectTable edition1 n k C s))
+verdict (n, k, C, s) = given (firstOf (inspectTable edition1 n k C s))
 
 abbrev order : List ℕ
 order = 4 ∷ 2 ∷ 1 ∷ []

@@ -11,13 +11,13 @@ use mathlib.Core.Logic.{_↔_}
 use mathlib.Core.Option.{none}
 use native.Mathlib.Omega.{arith}
 use Rattle.kinds.specs.Edition.{Edition, sized?}
-use Rattle.kinds.specs.Lowest.{Reason, lowest, Ascending}
+use Rattle.kinds.specs.First.{Reason, firstOf, Ascending}
 use Rattle.kinds.specs.Refusal.{said}
 use Rattle.kinds.specs.declared.Answer.{Answer}
 use Rattle.kinds.specs.declared.Answer.the-variants.{Done}
 use Rattle.kinds.proofs.TruthLaws.{stable}
 use Rattle.kinds.proofs.AnswerLaws.{said-same}
-use Rattle.kinds.proofs.LowestLaws.{lowest-none, lowest-both}
+use Rattle.kinds.proofs.FirstLaws.{first-none, first-both}
 use Rattle.order.specs.Table.{orderTable}
 use Rattle.order.proofs.TableLaws.{order-sound}
 use Rattle.sheet.specs.Layout.{wellFormed?}
@@ -38,17 +38,17 @@ module _ (e : Edition) (n k : ℕ) (C s : List ℕ) where
   abbrev rest : List Reason
   rest = brokenLayout e n k s ∷ passTable e n k C s
 
-  pub inspect-none : lowest (inspectTable e n k C s) ≡ none ↔ (Inspectable e n k C s × Passes e n k C s)
+  pub inspect-none : firstOf (inspectTable e n k C s) ≡ none ↔ (Inspectable e n k C s × Passes e n k C s)
   inspect-none = (
     λ none-given.
-        let (checked, judged) = lowest-both first rest .0 none-given in
+        let (checked, judged) = first-both first rest .0 none-given in
         let (sized, right, order) = order-sound (sized? e n k) n C (sheetLengths e s) .0 checked in
-        let (layout, passes) = lowest-none rest .0 judged in
+        let (layout, passes) = first-none rest .0 judged in
         (record { sized = sized; order = order; places = right .0; formed = stable (wellFormed? e n k s) layout }, record { none-applies = passes }),
     λ (whole, ok).
-        lowest-both first rest .1 (
+        first-both first rest .1 (
           order-sound (sized? e n k) n C (sheetLengths e s) .1 (whole .sized, (whole .places, tt), whole .order),
-          lowest-none rest .1 (λ broken. broken (whole .formed), ok .none-applies),
+          first-none rest .1 (λ broken. broken (whole .formed), ok .none-applies),
         ),
   )
 
@@ -56,9 +56,9 @@ module _ {e : Edition} {n k : ℕ} {C s : List ℕ} where
   whole-exact : Inspectable e n k C s → Passes e n k C s ↔ Right e n k C s
   whole-exact whole = exact (omega (arith, whole .sized .most)) (whole .order) (whole .formed)
 
-  pub inspects-by : {r : Answer} → said r ≡ lowest (inspectTable e n k C s) → Inspects e n k C s r
+  pub inspects-by : {r : Answer} → said r ≡ firstOf (inspectTable e n k C s) → Inspects e n k C s r
   inspects-by {r} gives = record {
-    lowest-of = gives;
+    first-of = gives;
     inspectable = λ done. passed done .0;
     exact = λ whole. (
       λ done. whole-exact whole .0 (passed done .1),
@@ -74,4 +74,4 @@ module _ {e : Edition} {n k : ℕ} {C s : List ℕ} where
   inspects-right whole right = inspects-by (sym (inspect-none e n k C s .1 (whole, whole-exact whole .1 right)))
 
 pub inspects-unique : {e : Edition} {n k : ℕ} {C s : List ℕ} (r q : Answer) → Inspects e n k C s r → Inspects e n k C s q → r ≡ q
-inspects-unique r q i j = said-same r q (i .lowest-of ∙ sym (j .lowest-of))
+inspects-unique r q i j = said-same r q (i .first-of ∙ sym (j .first-of))

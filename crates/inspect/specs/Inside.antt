@@ -12,7 +12,7 @@ use mathlib.Core.List.{List}
 use lib.ListN.{length, getD}
 use Rattle.kinds.specs.Answers.{Says}
 use Rattle.kinds.specs.Edition.{edition1}
-use Rattle.kinds.specs.Lowest.{lowest}
+use Rattle.kinds.specs.First.{firstOf}
 use Rattle.kinds.specs.Refusal.{said}
 use Rattle.kinds.specs.declared.Answer.{Answer}
 use Rattle.sheet.specs.Sheet.{Side, writeSide, readSide}
@@ -42,4 +42,4 @@ pub record Judgeable (n k : ℕ) (C : List ℕ) : Type 0 where
 
 abbrev pub Judges : ℕ → ℕ → List ℕ → OpenSide → OpenSide → Answer → Type 0
 Judges n k C o p r =
-    (s : List ℕ) → Shows n k o (writeSide edition1 n k s) → Shows n k p (readSide edition1 n k s) → said r ≡ lowest (passTable edition1 n k C s)
+    (s : List ℕ) → Shows n k o (writeSide edition1 n k s) → Shows n k p (readSide edition1 n k s) → said r ≡ firstOf (passTable edition1 n k C s)

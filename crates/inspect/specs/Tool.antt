@@ -9,7 +9,7 @@ use mathlib.Core.List.{List, _∷_, _++_}
 use mathlib.Core.Logic.{_↔_}
 use lib.ListN.{length}
 use Rattle.kinds.specs.Edition.{Edition, Sized, sized?, sheetPlaces}
-use Rattle.kinds.specs.Lowest.{Reason, lowest}
+use Rattle.kinds.specs.First.{Reason, firstOf}
 use Rattle.kinds.specs.Refusal.{said}
 use Rattle.kinds.specs.declared.Answer.{Answer}
 use Rattle.kinds.specs.declared.Answer.the-variants.{Done}
@@ -33,7 +33,7 @@ pub record Inspectable (e : Edition) (n k : ℕ) (C s : List ℕ) : Type 0 where
   pub formed : WellFormed e n k s
 
 pub record Inspects (e : Edition) (n k : ℕ) (C s : List ℕ) (r : Answer) : Type 0 where
-  pub lowest-of : said r ≡ lowest (inspectTable e n k C s)
+  pub first-of : said r ≡ firstOf (inspectTable e n k C s)
   pub inspectable : r ≡ Done → Inspectable e n k C s
   pub exact : Inspectable e n k C s → (r ≡ Done) ↔ Right e n k C s
   pub stages : r ≡ Done → k ≤ rank (rowsP1 k C) + length (readSide e n k s .stages)

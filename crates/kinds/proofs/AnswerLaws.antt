@@ -20,14 +20,14 @@ use native.Mathlib.Omega.{arith}
 use borrow.Author.Tests.{eqb-true, eq-eqb}
 use lib.Dec.{eqb}
 use Rattle.kinds.specs.Refusal.{said}
-use Rattle.kinds.specs.Lowest.{Reason, lowest}
+use Rattle.kinds.specs.First.{Reason, firstOf}
 use Rattle.kinds.specs.Reasons.{RightLengths}
 use Rattle.kinds.specs.Answers.{Says, Checks, Answers}
 use Rattle.kinds.specs.declared.Answer.{Answer}
 use Rattle.kinds.specs.declared.Answer.the-variants.{Done, Refused}
 use Rattle.kinds.specs.declared.Refusal.{Refusal}
 use Rattle.kinds.proofs.TruthLaws.{says-no, says-yes}
-use Rattle.kinds.proofs.LowestLaws.{none-some, lowest-before}
+use Rattle.kinds.proofs.FirstLaws.{none-some, first-before}
 
 pub not-both : {A : Type 0} {r : Answer} {x : Refusal} → r ≡ Done → r ≡ Refused x → A
 not-both d e = absurd (let z : _≡_ {A = ℕ} 0 1 = cc in omega arith)
@@ -38,9 +38,9 @@ said-same Done (Refused y) e = none-some e
 said-same (Refused x) Done e = none-some (sym e)
 said-same (Refused x) (Refused y) e = cc
 
-pub said-before : (s t : List Reason) (r : Answer) → ¬ (r ≡ Done) → said r ≡ lowest s → said r ≡ lowest (s ++ t)
+pub said-before : (s t : List Reason) (r : Answer) → ¬ (r ≡ Done) → said r ≡ firstOf s → said r ≡ firstOf (s ++ t)
 said-before s t Done refuses e = absurd (refuses refl)
-said-before s t (Refused x) refuses e = sym (lowest-before s t (sym e))
+said-before s t (Refused x) refuses e = sym (first-before s t (sym e))
 
 pub one-length : (lent right : ℕ) → Says (eqb lent right) (RightLengths ((lent, right) ∷ []))
 one-length lent right = (λ e. (eqb-true lent right e, tt), λ same. eq-eqb lent right (same .0))
@@ -53,28 +53,28 @@ pub checks-unique : (t : List (ℕ × ℕ) → List Reason) (fits : Bool) (r s :
 checks-unique t fits r s p q = let (others, says) = some-lengths fits in said-same r s (p others says ∙ sym (q others says))
 
 module _ {t : List Reason} {D K : Type 0} where
-  pub refused-by : {x : Refusal} → lowest t ≡ some x → K → Answers t (some x) D K
-  refused-by l k = record { lowest-of = sym l; done = λ e. none-some (sym e); refused = λ x e. k }
+  pub refused-by : {x : Refusal} → firstOf t ≡ some x → K → Answers t (some x) D K
+  refused-by l k = record { first-of = sym l; done = λ e. none-some (sym e); refused = λ x e. k }
 
-  pub done-by : lowest t ≡ none → D → Answers t none D K
-  done-by l d = record { lowest-of = sym l; done = λ _. d; refused = λ x e. none-some e }
+  pub done-by : firstOf t ≡ none → D → Answers t none D K
+  done-by l d = record { first-of = sym l; done = λ _. d; refused = λ x e. none-some e }
 
-  pub refuses : {r : Answer} → ¬ (r ≡ Done) → said r ≡ lowest t → K → Answers t (said r) D K
-  refuses {r} n l k = record { lowest-of = l; done = λ e. absurd (n (said-same r Done e)); refused = λ x e. k }
+  pub refuses : {r : Answer} → ¬ (r ≡ Done) → said r ≡ firstOf t → K → Answers t (said r) D K
+  refuses {r} n l k = record { first-of = l; done = λ e. absurd (n (said-same r Done e)); refused = λ x e. k }
 
-  pub does : {r : Answer} → r ≡ Done → said r ≡ lowest t → D → Answers t (said r) D K
-  does d l leaves = record { lowest-of = l; done = λ _. leaves; refused = λ x e. none-some (sym (ap said d) ∙ e) }
+  pub does : {r : Answer} → r ≡ Done → said r ≡ firstOf t → D → Answers t (said r) D K
+  does d l leaves = record { first-of = l; done = λ _. leaves; refused = λ x e. none-some (sym (ap said d) ∙ e) }
 
-  pub answers-done : {r : Answer} → lowest t ≡ none → Answers t (said r) D K → r ≡ Done
-  answers-done {r} e a = said-same r Done (a .lowest-of ∙ e)
+  pub answers-done : {r : Answer} → firstOf t ≡ none → Answers t (said r) D K → r ≡ Done
+  answers-done {r} e a = said-same r Done (a .first-of ∙ e)
 
 module _ {t : List Reason} {D K E L : Type 0} {o p : Option Refusal} (a : Answers t o D K) (b : Answers t p E L) where
   pub answers-same : o ≡ p
-  answers-same = a .lowest-of ∙ sym (b .lowest-of)
+  answers-same = a .first-of ∙ sym (b .first-of)
 
-  pub answers-agree : {X : Type 0} → (lowest t ≡ none → D → E → X) → (K → L → X) → X
+  pub answers-agree : {X : Type 0} → (firstOf t ≡ none → D → E → X) → (K → L → X) → X
   answers-agree {X} done kept = go o refl
     where
       go : (q : Option Refusal) → o ≡ q → X
-      go none e = done (sym (a .lowest-of) ∙ e) (a .done e) (b .done (sym answers-same ∙ e))
+      go none e = done (sym (a .first-of) ∙ e) (a .done e) (b .done (sym answers-same ∙ e))
       go (some x) e = kept (a .refused x e) (b .refused x (sym answers-same ∙ e))

@@ -5,7 +5,7 @@ use mathlib.Core.List.{[], _∷_, map}
 use native.Mathlib.Omega.{arith}
 use Rattle.kinds.specs.Edition.{edition1, sidePlaces, sheetPlaces, SizedN, Sized}
 use Rattle.kinds.specs.Refusal.{valuesOf, given}
-use Rattle.kinds.specs.Lowest.{Reason, lowest}
+use Rattle.kinds.specs.First.{Reason, firstOf}
 use Rattle.kinds.specs.declared.Refusal.{Refusal}
 use Rattle.kinds.specs.declared.Refusal.the-variants.{Sizes, Length, Layout, WriteClash, ReadClash}
 
@@ -28,7 +28,7 @@ always r = record { refusal = r; applies = Unit; decided = yes tt }
 never : Refusal → Reason
 never r = record { refusal = r; applies = ⊥; decided = no (λ a. a) }
 
-numbers : map (λ t. given (lowest t)) ((never Sizes ∷ always Length ∷ always Layout ∷ []) ∷ (never Sizes ∷ never Length ∷ []) ∷ [])
+numbers : map (λ t. given (firstOf t)) ((never Sizes ∷ always Length ∷ always Layout ∷ []) ∷ (never Sizes ∷ never Length ∷ []) ∷ [])
     ≡ 2 ∷ 0 ∷ []
-unfolding lowest always never
+unfolding firstOf always never
 numbers = refl

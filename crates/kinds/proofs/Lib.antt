@@ -1,5 +1,5 @@
 pub mod TruthLaws
-pub mod LowestLaws
+pub mod FirstLaws
 pub mod AnswerLaws
 pub mod FrameLaws
 pub mod SearchLaws

@@ -1,8 +1,8 @@
 -- How a contract speaks of what is answered.
 --   Says b A               the bool b says whether A holds
---   Checks t fits r        a check that a tool begins with: r is the lowest of the table t that applies, for whichever lengths the tool was lent
+--   Checks t fits r        a check that a tool begins with: r is the first of the table t that applies, for whichever lengths the tool was lent
 --                          beside those that the check knows, as long as fits says whether they are right
---   Answers t o D K        a tool's answer, where o is the refusal that it gives, if it gives one: o is the lowest of the table t that applies;
+--   Answers t o D K        a tool's answer, where o is the refusal that it gives, if it gives one: o is the first of the table t that applies;
 --                          where that is none, D holds, what the tool is to answer or to leave; on a refusal K, everything lent is as it came
 use Prim.Native.Nat.{ℕ}
 use mathlib.Core.Path.{_≡_}
@@ -11,7 +11,7 @@ use mathlib.Core.List.{List}
 use mathlib.Core.Logic.{_↔_}
 use mathlib.Core.Option.{Option, none, some}
 use Rattle.kinds.specs.Refusal.{said}
-use Rattle.kinds.specs.Lowest.{Reason, lowest}
+use Rattle.kinds.specs.First.{Reason, firstOf}
 use Rattle.kinds.specs.Reasons.{RightLengths}
 use Rattle.kinds.specs.declared.Answer.{Answer}
 use Rattle.kinds.specs.declared.Refusal.{Refusal}
@@ -20,9 +20,9 @@ abbrev pub Says : Bool → Type 0 → Type 0
 Says b A = (b ≡ true) ↔ A
 
 abbrev pub Checks : (List (ℕ × ℕ) → List Reason) → Bool → Answer → Type 0
-Checks t fits r = (others : List (ℕ × ℕ)) → Says fits (RightLengths others) → said r ≡ lowest (t others)
+Checks t fits r = (others : List (ℕ × ℕ)) → Says fits (RightLengths others) → said r ≡ firstOf (t others)
 
 pub record Answers (t : List Reason) (o : Option Refusal) (D K : Type 0) : Type 0 where
-  pub lowest-of : o ≡ lowest t
+  pub first-of : o ≡ firstOf t
   pub done : o ≡ none → D
   pub refused : (x : Refusal) → o ≡ some x → K

@@ -4,6 +4,6 @@ pub mod Search
 pub mod Edition
 pub mod Frame
 pub mod Refusal
-pub mod Lowest
+pub mod First
 pub mod Reasons
 pub mod Answers

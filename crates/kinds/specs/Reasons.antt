@@ -8,7 +8,7 @@ use mathlib.Core.Path.{_≡_}
 use mathlib.Core.List.{List, [], _∷_}
 use native.Mathlib.Decide.{ℕ-discrete}
 use Rattle.kinds.specs.Decided.{both}
-use Rattle.kinds.specs.Lowest.{Reason, unless}
+use Rattle.kinds.specs.First.{Reason, unless}
 use Rattle.kinds.specs.declared.Refusal.the-variants.{Sizes, Length}
 
 abbrev pub outside : {S : Type 0} → Dec S → Reason

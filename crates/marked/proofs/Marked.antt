@@ -6,7 +6,7 @@ use native.Mathlib.Decide.{ℕ-discrete, decLe, decLt}
 use lib.Count.{ones}
 use Rattle.kinds.specs.Edition.{sized?}
 use Rattle.kinds.specs.Frame.{inOrder}
-use Rattle.kinds.specs.Lowest.{lowest}
+use Rattle.kinds.specs.First.{firstOf}
 use Rattle.kinds.specs.Reasons.{rightLengths?}
 use Rattle.kinds.specs.Search.{someBelow, eachBelow, those}
 use Rattle.bits.specs.Image.{image, columns, allBelow?}
@@ -25,5 +25,5 @@ use Rattle.plan.specs.Planned.{othersOfP1, portsToZero, keptOfP3, pairs, readSt
 use Rattle.marked.specs.Cases.{Each, marked}
 
 pub marked-cases : Each marked
-unfolding lowest ℕ-discrete decLe decLt sized? rightLengths? inOrder flatten ones someBelow eachBelow those image columns allBelow? parity dot bijection? sumOf? independent? keptAt others mask masks dots rows stagesIn fromTo? stageInRange? eachStage? inRange? allZero? formedSide? wellFormed? afterStages keptStages put standing othersOfP1 portsToZero keptOfP3 pairs readStages
+unfolding firstOf ℕ-discrete decLe decLt sized? rightLengths? inOrder flatten ones someBelow eachBelow those image columns allBelow? parity dot bijection? sumOf? independent? keptAt others mask masks dots rows stagesIn fromTo? stageInRange? eachStage? inRange? allZero? formedSide? wellFormed? afterStages keptStages put standing othersOfP1 portsToZero keptOfP3 pairs readStages
 marked-cases = ((refl, refl), (refl, (refl, ((refl, refl), (refl, ((refl, refl), (refl, ((refl, refl), (refl, ((refl, refl, refl, refl), ((refl, refl), ((refl, refl), (refl, (refl, (refl, (refl, tt))))))))))))))))

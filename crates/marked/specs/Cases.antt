@@ -10,7 +10,7 @@ use mathlib.Core.List.{List, [], _∷_}
 use lib.ListN.{set, replicate}
 use Rattle.kinds.specs.Edition.{edition1, sheetPlaces}
 use Rattle.kinds.specs.Frame.{ticks, inOrder}
-use Rattle.kinds.specs.Lowest.{lowest}
+use Rattle.kinds.specs.First.{firstOf}
 use Rattle.kinds.specs.Refusal.{given}
 use Rattle.sheet.specs.Sheet.{flat}
 use Rattle.plan.specs.Planned.{plannedRead, plannedWrite, plannedSheet}
@@ -33,8 +33,8 @@ Holds (stages n k C write read) = (flat (plannedWrite n k C .stages) ≡ write) 
 Holds (columns n k C wa ra ww rw) =
     (plannedWrite n k C .addresses ≡ wa) × (plannedRead n k C .addresses ≡ ra) × (plannedWrite n k C .wiring ≡ ww) × (plannedRead n k C .wiring ≡ rw)
 Holds (frameOut n k C out) = inOrder (ticks n k) (tickOut edition1 n k (plannedSheet edition1 n k C)) ≡ out
-Holds (refusal n k C number) = given (lowest (planTable edition1 n k C (replicate (sheetPlaces edition1) 0))) ≡ number
-Holds (verdict n k C sheet number) = given (lowest (inspectTable edition1 n k C sheet)) ≡ number
+Holds (refusal n k C number) = given (firstOf (planTable edition1 n k C (replicate (sheetPlaces edition1) 0))) ≡ number
+Holds (verdict n k C sheet number) = given (firstOf (inspectTable edition1 n k C sheet)) ≡ number
 
 abbrev pub Each : List Case → Type 0
 Each [] = Unit

@@ -11,7 +11,7 @@ use lib.Count.{ones}
 use lib.ListN.{getD}
 use Rattle.kinds.specs.Edition.{edition1, sizedN?, sized?}
 use Rattle.kinds.specs.Refusal.{given}
-use Rattle.kinds.specs.Lowest.{lowest}
+use Rattle.kinds.specs.First.{firstOf}
 use Rattle.kinds.specs.Reasons.{rightLengths?}
 use Rattle.bits.specs.Image.{image, columns}
 use Rattle.bits.specs.Parity.{parity, dot}
@@ -50,7 +50,7 @@ gray-undone : (gray 3 ≡ 1 ∷ 3 ∷ 6 ∷ []) × (after (1 ∷ 3 ∷ 7 ∷ [])
 unfolding image columns
 gray-undone = (refl, refl, refl)
 
-refused : map (λ (n, C, out). given (lowest (inverseTable edition1 n C out))) (
+refused : map (λ (n, C, out). given (firstOf (inverseTable edition1 n C out))) (
     (2, 4 ∷ 4 ∷ [], 0 ∷ 0 ∷ [])
     ∷ (2, 1 ∷ 1 ∷ [], 0 ∷ 0 ∷ [])
     ∷ (2, 2 ∷ 1 ∷ [], 0 ∷ 0 ∷ [])
@@ -61,19 +61,19 @@ refused : map (λ (n, C, out). given (lowest (inverseTable edition1 n C out))) (
     ∷ (4294967295, [], [])
     ∷ []
     ) ≡ 3 ∷ 4 ∷ 0 ∷ 2 ∷ 2 ∷ 1 ∷ 1 ∷ 1 ∷ []
-unfolding image lowest sizedN? decLe rightLengths? ℕ-discrete someBelow independent?
+unfolding image firstOf sizedN? decLe rightLengths? ℕ-discrete someBelow independent?
 refused = refl
 
-refused-frames : map (λ (C, frame, out). given (lowest (moverTable edition1 1 C frame out))) (
+refused-frames : map (λ (C, frame, out). given (firstOf (moverTable edition1 1 C frame out))) (
     (1 ∷ [], 7 ∷ 8 ∷ [], 0 ∷ 0 ∷ []) ∷ (2 ∷ [], 7 ∷ [], 0 ∷ 0 ∷ []) ∷ (0 ∷ [], 7 ∷ 8 ∷ [], 0 ∷ []) ∷ []
     ) ≡ 0 ∷ 2 ∷ 2 ∷ []
-unfolding image lowest sizedN? decLe rightLengths? ℕ-discrete someBelow independent?
+unfolding image firstOf sizedN? decLe rightLengths? ℕ-discrete someBelow independent?
 refused-frames = refl
 
-refused-with-k : map (λ (n, k). given (lowest (orderTable (sized? edition1 n k) n [] []))) (
+refused-with-k : map (λ (n, k). given (firstOf (orderTable (sized? edition1 n k) n [] []))) (
     (10, 5) ∷ (10, 6) ∷ (10, 0) ∷ (2, 3) ∷ (11, 5) ∷ []
     ) ≡ 2 ∷ 1 ∷ 1 ∷ 1 ∷ 1 ∷ []
-unfolding image lowest sizedN? sized? decLe rightLengths? ℕ-discrete someBelow independent?
+unfolding image firstOf sizedN? sized? decLe rightLengths? ℕ-discrete someBelow independent?
 refused-with-k = refl
 
 abbrev stride : List ℕ

@@ -13,7 +13,7 @@ use mathlib.Core.Option.{none}
 use native.Mathlib.Decide.{decLt}
 use native.Mathlib.Omega.{arith}
 use lib.ListN.{length, getD}
-use Rattle.kinds.specs.Lowest.{lowest, Ascending}
+use Rattle.kinds.specs.First.{firstOf, Ascending}
 use Rattle.kinds.specs.Answers.{Checks}
 use Rattle.kinds.specs.Reasons.{outside, RightLengths, rightLengths?}
 use Rattle.kinds.specs.Refusal.{said}
@@ -21,7 +21,7 @@ use Rattle.kinds.specs.declared.Answer.{Answer}
 use Rattle.kinds.specs.declared.Answer.the-variants.{Refused}
 use Rattle.kinds.specs.declared.Refusal.the-variants.{Sizes}
 use Rattle.kinds.proofs.TruthLaws.{stable}
-use Rattle.kinds.proofs.LowestLaws.{lowest-take, lowest-skip, lowest-none}
+use Rattle.kinds.proofs.FirstLaws.{first-take, first-skip, first-none}
 use Rattle.bits.specs.Image.{AllBelow}
 use Rattle.span.specs.Sums.{independent?}
 use Rattle.order.specs.Order.{Order}
@@ -37,19 +37,19 @@ too-large n C beyond = stable (tooLarge n C .decided) (λ small. beyond (not-lar
 
 module _ {S : Type 0} (sized : Dec S) (n : ℕ) (C : List ℕ) where
   pub outside-sizes : (fits : Bool) {r : Answer} → ¬ S → r ≡ Refused Sizes → Checks (orderTable sized n C) fits r
-  outside-sizes fits out e others f = ap said e ∙ sym (lowest-take (outside sized) (columnTable n C others) out)
+  outside-sizes fits out e others f = ap said e ∙ sym (first-take (outside sized) (columnTable n C others) out)
 
   pub within-sizes : (fits : Bool) {r : Checked} → S → ChecksColumns n C fits r → Checks (orderTable sized n C) fits (r .answer)
-  within-sizes fits s j others f = j .answer others f ∙ sym (lowest-skip (outside sized) (columnTable n C others) (λ out. out s))
+  within-sizes fits s j others f = j .answer others f ∙ sym (first-skip (outside sized) (columnTable n C others) (λ out. out s))
 
   pub order-ascending : (others : List (ℕ × ℕ)) → Ascending (orderTable sized n C others)
   order-ascending others =
       ((omega arith, (omega arith, (omega arith, tt))), ((omega arith, (omega arith, tt)), ((omega arith, tt), (tt, tt))))
 
-  pub order-sound : (others : List (ℕ × ℕ)) → lowest (orderTable sized n C others) ≡ none ↔ (S × RightLengths others × Order n C)
+  pub order-sound : (others : List (ℕ × ℕ)) → firstOf (orderTable sized n C others) ≡ none ↔ (S × RightLengths others × Order n C)
   order-sound others = (
     λ e.
-        let none-applies = lowest-none (orderTable sized n C others) .0 e in
+        let none-applies = first-none (orderTable sized n C others) .0 e in
         let right = stable (rightLengths? ((length C, n) ∷ others)) (none-applies .1 .0) in
         let order : Order n C = record {
           count = right .0;
@@ -58,7 +58,7 @@ module _ {S : Type 0} (sized : Dec S) (n : ℕ) (C : List ℕ) where
         } in
         (stable sized (none-applies .0), right .1, order),
     λ (s, right, order).
-        lowest-none (orderTable sized n C others) .1 (
+        first-none (orderTable sized n C others) .1 (
           λ out. out s,
           (λ wrong. wrong (order .count, right), (λ (j, l, large). omega (arith, order .below j l), (λ d. d (order .independent), tt))),
         ),

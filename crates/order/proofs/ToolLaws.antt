@@ -10,7 +10,7 @@ use mathlib.Core.Option.{none}
 use lib.ListN.{length}
 use Rattle.kinds.specs.Edition.{Edition, SizedN, sizedN?}
 use Rattle.kinds.specs.Refusal.{said}
-use Rattle.kinds.specs.Lowest.{lowest}
+use Rattle.kinds.specs.First.{firstOf}
 use Rattle.kinds.specs.declared.Answer.{Answer}
 use Rattle.kinds.specs.declared.Answer.the-variants.{Done}
 use Rattle.kinds.proofs.AnswerLaws.{said-same, answers-done, answers-same, answers-agree}
@@ -23,10 +23,10 @@ use Rattle.order.proofs.TableLaws.{order-sound}
 
 -- what a tool shows that was done
 module _ (e : Edition) (n : ℕ) (C : List ℕ) where
-  inverse-sound : (out : List ℕ) → lowest (inverseTable e n C out) ≡ none → Order n C
+  inverse-sound : (out : List ℕ) → firstOf (inverseTable e n C out) ≡ none → Order n C
   inverse-sound out l = order-sound (sizedN? e n) n C (inverseLengths n out) .0 l .2
 
-  mover-sound : (frame out : List ℕ) → lowest (moverTable e n C frame out) ≡ none → SizedN e n × (length frame ≡ 2 ^ n) × Order n C
+  mover-sound : (frame out : List ℕ) → firstOf (moverTable e n C frame out) ≡ none → SizedN e n × (length frame ≡ 2 ^ n) × Order n C
   mover-sound frame out l =
       let s = order-sound (sizedN? e n) n C (moverLengths n frame out) .0 l in (s .0, s .1 .0, s .2)
 
@@ -51,7 +51,7 @@ module _ (e : Edition) (n : ℕ) (C : List ℕ) where
 round : (e : Edition) (n : ℕ) (C D frame out moved buffer home : List ℕ) (r s : Answer) → Undoes n C D → length buffer ≡ 2 ^ n
     → r ≡ Done → Moves e n C frame out moved r → Moves e n D moved buffer home s → (s ≡ Done) × (home ≡ frame)
 round e n C D frame out moved buffer home r s u l d there back =
-    let (sized, whole, o) = mover-sound e n C frame out (sym (there .lowest-of) ∙ ap said d) in
+    let (sized, whole, o) = mover-sound e n C frame out (sym (there .first-of) ∙ ap said d) in
     let m = there .done (ap said d) in
     let done = mover-done e n D moved buffer home s sized (undoes-order o u) (m .whole) l back in
     (done, moved-home o u whole m (back .done (ap said done)))
@@ -61,12 +61,12 @@ module _ (e : Edition) (n : ℕ) (C D frame out moved inverse buffer home : List
   pub moved-and-back : length inverse ≡ n → Moves e n C frame out moved r → Moves e n D moved buffer home s
       → (q ≡ Done) × (s ≡ Done) × (home ≡ frame)
   moved-and-back i there back =
-      let (sized, whole, o) = mover-sound e n C frame out (sym (there .lowest-of) ∙ ap said d) in
+      let (sized, whole, o) = mover-sound e n C frame out (sym (there .first-of) ∙ ap said d) in
       let undone = answers-done (order-sound (sizedN? e n) n C (inverseLengths n inverse) .1 (sized, (i, tt), o)) undo in
       let (done, same) = round e n C D frame out moved buffer home r s (undo .done (ap said undone)) l d there back in
       (undone, done, same)
 
   pub back-and-moved : q ≡ Done → Moves e n D frame out moved r → Moves e n C moved buffer home s → (s ≡ Done) × (home ≡ frame)
   back-and-moved undone there back =
-      let o = inverse-sound e n C inverse (sym (undo .lowest-of) ∙ ap said undone) in
+      let o = inverse-sound e n C inverse (sym (undo .first-of) ∙ ap said undone) in
       round e n D C frame out moved buffer home r s (undoes-sym o (undo .done (ap said undone))) l d there back

@@ -11,7 +11,7 @@ use mathlib.Core.List.{List, [], _∷_}
 use native.Mathlib.Decide.{decLe}
 use lib.ListN.{length, getD}
 use Rattle.kinds.specs.Edition.{Edition, sizedN?}
-use Rattle.kinds.specs.Lowest.{Reason, unless}
+use Rattle.kinds.specs.First.{Reason, unless}
 use Rattle.kinds.specs.Reasons.{outside, wrongLength}
 use Rattle.kinds.specs.declared.Refusal.the-variants.{TooLarge, Dependent}
 use Rattle.kinds.specs.Search.{someBelow}

@@ -8,7 +8,7 @@ use mathlib.Core.List.{List}
 use mathlib.Core.Option.{none}
 use lib.ListN.{length}
 use Rattle.kinds.specs.Edition.{Edition, Sized, sized?, sheetPlaces}
-use Rattle.kinds.specs.Lowest.{lowest}
+use Rattle.kinds.specs.First.{firstOf}
 use Rattle.kinds.specs.Refusal.{said}
 use Rattle.kinds.specs.declared.Answer.{Answer}
 use Rattle.kinds.specs.declared.Answer.the-variants.{Done}
@@ -28,7 +28,7 @@ module _ (e : Edition) (n k : ℕ) (C s : List ℕ) where
   )
 
   module _ (sized : Sized e n k) (order : Order n C) (places : length s ≡ sheetPlaces e) where
-    none-given : lowest (planTable e n k C s) ≡ none
+    none-given : firstOf (planTable e n k C s) ≡ none
     none-given = order-sound (sized? e n k) n C (sheetLengths e s) .1 (sized, (places, tt), order)
 
     pub plans-done : (a : List ℕ) (r : Answer) → Plans e n k C s a r → (r ≡ Done) × IsPlanned e n k C a

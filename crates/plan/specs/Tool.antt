@@ -9,7 +9,7 @@ use mathlib.Core.List.{List}
 use lib.ListN.{length}
 use Rattle.kinds.specs.Answers.{Answers}
 use Rattle.kinds.specs.Edition.{Edition, sheetPlaces, sized?}
-use Rattle.kinds.specs.Lowest.{Reason}
+use Rattle.kinds.specs.First.{Reason}
 use Rattle.kinds.specs.Refusal.{said}
 use Rattle.kinds.specs.declared.Answer.{Answer}
 use Rattle.span.specs.Scan.{rank}

@@ -9,7 +9,7 @@ use lib.ListN.{length, getD, set, replicate}
 use Rattle.kinds.specs.Edition.{edition1}
 use Rattle.kinds.specs.Frame.{inOrder}
 use Rattle.kinds.specs.Refusal.{given}
-use Rattle.kinds.specs.Lowest.{lowest}
+use Rattle.kinds.specs.First.{firstOf}
 use Rattle.kinds.specs.Search.{someBelow, eachBelow}
 use Rattle.bits.specs.Image.{image}
 use Rattle.bits.specs.Parity.{parity, dot}
@@ -24,7 +24,7 @@ use Rattle.promise.specs.Passes.{passTable}
 
 -- what a sheet's maps and a call compute with
 computed : Unit {0}
-unfolding lowest ℕ-discrete stagesIn eachBelow decLe decLt someBelow image afterStages dot parity ones inOrder put bijection? standing flatten
+unfolding firstOf ℕ-discrete stagesIn eachBelow decLe decLt someBelow image afterStages dot parity ones inOrder put bijection? standing flatten
 computed = tt
 
 abbrev zeros : ℕ → List ℕ
@@ -95,7 +95,7 @@ faults = refl
 
 -- there M = N P for the identity, and still words are lost: 8, and the second call finds its cells filled
 lost : (map (M edition1 2 1 singular) (0 ∷ 1 ∷ 2 ∷ 3 ∷ []) ≡ map (N edition1 2 1 singular) (0 ∷ 1 ∷ 2 ∷ 3 ∷ []))
-    × (given (lowest (passTable edition1 2 1 (1 ∷ 2 ∷ []) singular)) ≡ 8)
+    × (given (firstOf (passTable edition1 2 1 (1 ∷ 2 ∷ []) singular)) ≡ 8)
     × (told 2 1 singular (fresh 8 2) ((0 ∷ 1 ∷ []) ∷ (2 ∷ 3 ∷ []) ∷ []) ≡ (0, []) ∷ (12, []) ∷ [])
 unfolding computed
 lost = (refl, refl, refl)

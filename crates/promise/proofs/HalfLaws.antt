@@ -21,7 +21,7 @@ use lib.ListN.{length, getD, replicate, length-replicate, getD-replicate, List·
 use lib.Pow.{split, high}
 use Rattle.kinds.specs.Frame.{ticks, tickOf, portOf, wordAt}
 use Rattle.kinds.proofs.FrameLaws.{tick-lt, port-lt, word-lt}
-use Rattle.kinds.proofs.LowestLaws.{lowest-none}
+use Rattle.kinds.proofs.FirstLaws.{first-none}
 use Rattle.span.specs.Maps.{Injective, Bijection}
 use Rattle.span.proofs.Counting.{injective-onto}
 use Rattle.run.specs.Memory.{Memory, Filled, put, marked, stored, emptied, wordsAt, served}
@@ -267,7 +267,7 @@ module _ {n k : ℕ} (within : k ≤ n) where
       pub held-sound : (ws : List ℕ) → call [] n k f e st ws m .refusal ≡ none
       held-sound ws =
           call-given [] n k f e st ws m
-          ∙ lowest-none (faults k (writesOf n k f st ws) (readsOf n k e st) (m .marks)) .1
+          ∙ first-none (faults k (writesOf n k f st ws) (readsOf n k e st) (m .marks)) .1
           (writes-sound ws .0, (writes-sound ws .1, (reads-sound .0, (reads-sound .1, tt))))
 
       pub held-word : (i : ℕ) → i < 2 ^ n → tickOf k (Q i) ≡ st .r → getD (wordsAt (readsOf n k e st) (m .words)) (portOf k (Q i)) 0 ≡ v i

@@ -16,10 +16,10 @@ use lib.Dec.{eqb}
 use lib.ListN.{length, getD, replicate, length-replicate, getD-replicate}
 use lib.Pow.{pow-pos, split}
 use Rattle.kinds.specs.Frame.{tickBits, ticks, tickOf, portOf, wordAt, bankOf}
-use Rattle.kinds.specs.Lowest.{EachReason}
+use Rattle.kinds.specs.First.{EachReason}
 use Rattle.kinds.proofs.FrameLaws.{frame-whole, tick-lt, port-lt}
 use Rattle.kinds.proofs.TruthLaws.{stable}
-use Rattle.kinds.proofs.LowestLaws.{lowest-none}
+use Rattle.kinds.proofs.FirstLaws.{first-none}
 use Rattle.span.specs.Maps.{Injective, Bijection}
 use Rattle.span.proofs.Counting.{apart-injective, injective-onto}
 use Rattle.sheet.specs.Layout.{AllZero}
@@ -132,7 +132,7 @@ module _ (n k : ℕ) (P f g u : ℕ → ℕ) (right : RightOver n k (λ F. P) (o
     done = call-done [] n k f g (before j .state) (callAt S j) (before j .memory) none-given
 
     nothing-wrong : EachReason (λ r. ¬ r .applies) (faults k (writesOf n k f (before j .state) (callAt S j)) (readsOf n k g (before j .state)) (before j .memory .marks))
-    nothing-wrong = lowest-none _ .0 (sym (call-given [] n k f g (before j .state) (callAt S j) (before j .memory)) ∙ none-given)
+    nothing-wrong = first-none _ .0 (sym (call-given [] n k f g (before j .state) (callAt S j) (before j .memory)) ∙ none-given)
 
     state-after : {st : State} {ws : List ℕ} → before j .state ≡ st → callAt S j ≡ ws → before (suc j) .state ≡ next T st ws
     unfolding standing

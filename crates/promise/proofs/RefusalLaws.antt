@@ -6,7 +6,7 @@ use mathlib.Core.List.{List, []}
 use mathlib.Core.Option.{Option, none, some}
 use native.Mathlib.Omega.{arith}
 use Rattle.kinds.specs.declared.Refusal.{Refusal}
-use Rattle.kinds.proofs.LowestLaws.{lowest-has}
+use Rattle.kinds.proofs.FirstLaws.{first-has}
 use Rattle.run.specs.Memory.{Memory}
 use Rattle.run.specs.Faults.{faults}
 use Rattle.run.specs.Call.{readsOf, writesOf, call}
@@ -25,4 +25,4 @@ module _ (n k : ℕ) (f g : ℕ → ℕ) (st : State) (ws : List ℕ) (m : Memor
       go none e = refl
       go (some x) e =
           let t = faults k (writesOf n k f st ws) (readsOf n k g st) (m .marks) in
-          absurd (no-fault (rw e (lowest-has (λ r. IsFault (some r)) t (omega arith) (sym (call-given [] n k f g st ws m) ∙ e))))
+          absurd (no-fault (rw e (first-has (λ r. IsFault (some r)) t (omega arith) (sym (call-given [] n k f g st ws m) ∙ e))))

@@ -16,9 +16,9 @@ use native.Mathlib.Omega.{arith}
 use lib.ListN.{length, replicate, length-replicate}
 use Rattle.kinds.specs.Edition.{Edition, Sized, sheetPlaces}
 use Rattle.kinds.specs.Frame.{ticks}
-use Rattle.kinds.specs.Lowest.{Reason, lowest}
+use Rattle.kinds.specs.First.{Reason, firstOf}
 use Rattle.kinds.specs.declared.Refusal.{Refusal}
-use Rattle.kinds.proofs.LowestLaws.{lowest-none}
+use Rattle.kinds.proofs.FirstLaws.{first-none}
 use Rattle.order.specs.Order.{place}
 use Rattle.sheet.specs.Layout.{AllZero, WellFormed}
 use Rattle.maps.specs.Cells.{M, N}
@@ -108,12 +108,12 @@ module _ (e : Edition) (n k : ℕ) (s : List ℕ) (S : List (List ℕ)) (out : �
 
   module _ (sized : Sized e n k) (whole : length s ≡ sheetPlaces e) (formed : WellFormed e n k s) (room : (j : ℕ) → j < length S → length (out j) ≡ 2 ^ k)
       (fresh : Fresh n k x) (series : Series k S) where
-    nothing-wrong : (j : ℕ) → j < length S → lowest (before j (standing tool x j)) ≡ none
+    nothing-wrong : (j : ℕ) → j < length S → firstOf (before j (standing tool x j)) ≡ none
     nothing-wrong j h =
         let y = standing tool x j in
         let (words, marks) = lent-by tool x S fair-at j in
         let possible = tool-possible fresh j in
-        lowest-none (before j y) .1 (
+        first-none (before j y) .1 (
           λ outside. outside sized,
           (
             λ wrong. wrong (whole, (call-count (callAt S j) (series j h), (room j h, (words ∙ fresh .words-lent, (marks ∙ fresh .marks-lent, tt))))),

@@ -19,7 +19,7 @@ use native.Mathlib.Decide.{ℕ-discrete}
 use Rattle.kinds.specs.Decided.{opposite}
 use Rattle.kinds.specs.Edition.{Edition}
 use Rattle.kinds.specs.Frame.{ticks, wordAt, bankOf}
-use Rattle.kinds.specs.Lowest.{Reason, EachReason, unless}
+use Rattle.kinds.specs.First.{Reason, EachReason, unless}
 use Rattle.kinds.specs.Search.{someBelow}
 use Rattle.kinds.specs.declared.Refusal.{Refusal}
 use Rattle.kinds.specs.declared.Refusal.the-variants.{WriteWiring, ReadWiring, SharedCell, Differs}

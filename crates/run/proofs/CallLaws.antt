@@ -18,9 +18,9 @@ use native.Mathlib.Omega.{arith}
 use lib.ListN.{length, getD, length-map}
 use Rattle.kinds.specs.Edition.{Edition}
 use Rattle.kinds.specs.Frame.{ticks}
-use Rattle.kinds.specs.Lowest.{Reason, lowest}
+use Rattle.kinds.specs.First.{Reason, firstOf}
 use Rattle.kinds.specs.declared.Refusal.{Refusal}
-use Rattle.kinds.proofs.LowestLaws.{lowest-none, lowest-append, lowest-both}
+use Rattle.kinds.proofs.FirstLaws.{first-none, first-append, first-both}
 use Rattle.bits.specs.Image.{AllBelow}
 use Rattle.maps.specs.Cells.{M, N}
 use Rattle.maps.proofs.CellLaws.{cell-into}
@@ -45,11 +45,11 @@ module _ (t : List Reason) (n k : ℕ) (f g : ℕ → ℕ) (st : State) (ws : Li
   abbrev this : Outcome
   this = call t n k f g st ws m
 
-  comes : {o : Option Refusal} → lowest (t ++ faults k writes reads (m .marks)) ≡ o → this ≡ outcome o n k f g st ws m
+  comes : {o : Option Refusal} → firstOf (t ++ faults k writes reads (m .marks)) ≡ o → this ≡ outcome o n k f g st ws m
   comes e = ap (λ (o : Option Refusal). outcome o n k f g st ws m) e
 
-  pub call-given : this .refusal ≡ lowest (t ++ faults k writes reads (m .marks))
-  call-given = go (lowest (t ++ faults k writes reads (m .marks)))
+  pub call-given : this .refusal ≡ firstOf (t ++ faults k writes reads (m .marks))
+  call-given = go (firstOf (t ++ faults k writes reads (m .marks)))
     where
       go : (o : Option Refusal) → outcome o n k f g st ws m .refusal ≡ o
       go none = refl
@@ -61,11 +61,11 @@ module _ (t : List Reason) (n k : ℕ) (f g : ℕ → ℕ) (st : State) (ws : Li
   pub call-done : this .refusal ≡ none → this ≡ carriedOut n k f g st ws m
   call-done e = comes (sym call-given ∙ e)
 
-  pub call-past : lowest t ≡ none → this ≡ call [] n k f g st ws m
-  call-past given = comes (lowest-append t _ (lowest-none t .0 given))
+  pub call-past : firstOf t ≡ none → this ≡ call [] n k f g st ws m
+  call-past given = comes (first-append t _ (first-none t .0 given))
 
   pub call-leaving : length (this .leaving) ≡ cond (this .handed) (2 ^ k) 0
-  call-leaving = go (lowest (t ++ faults k writes reads (m .marks)))
+  call-leaving = go (firstOf (t ++ faults k writes reads (m .marks)))
     where
       go : (o : Option Refusal) → length (outcome o n k f g st ws m .leaving) ≡ cond (outcome o n k f g st ws m .handed) (2 ^ k) 0
       go none = length-map reads (λ (x : ℕ). getD (m .words) x 0) ∙ reads-length n k g st
@@ -81,7 +81,7 @@ module _ (t : List Reason) (n k : ℕ) (f g : ℕ → ℕ) (st : State) (ws : Li
     pub call-filled : ((i : ℕ) → f i < 2 ^ n) → ((i : ℕ) → g i < 2 ^ n) → st .h < 2 → length (m .marks) ≡ 2 ^ (n + 1) → length ws ≡ rightTick k (length ws)
         → filledMarks (this .memory .marks) + cond (this .handed) (2 ^ k) 0 ≡ filledMarks (m .marks) + length ws
     call-filled into from half marks came =
-        let (clash, (filled, (crossed, (empty, _)))) = lowest-none (faults k writes reads (m .marks)) .0 (lowest-both t _ .0 (sym call-given ∙ ok) .1) in
+        let (clash, (filled, (crossed, (empty, _)))) = first-none (faults k writes reads (m .marks)) .0 (first-both t _ .0 (sym call-given ∙ ok) .1) in
         let written : AllBelow (length (m .marks)) writes = rw marks (writes-below n k f into st ws half) in
         let taken : AllBelow (length (m .marks)) reads = rw marks (reads-below n k g from st) in
         rw (call-done ok) (

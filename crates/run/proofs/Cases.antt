@@ -11,7 +11,7 @@ use Rattle.kinds.specs.Edition.{edition1, sized?}
 use Rattle.kinds.specs.Frame.{inOrder}
 use Rattle.kinds.specs.Refusal.{given}
 use Rattle.kinds.specs.declared.Refusal.the-variants.{WriteClash, ReadClash}
-use Rattle.kinds.specs.Lowest.{lowest}
+use Rattle.kinds.specs.First.{firstOf}
 use Rattle.kinds.specs.Reasons.{rightLengths?}
 use Rattle.kinds.specs.Search.{someBelow, eachBelow}
 use Rattle.bits.specs.Image.{image, allBelow?}
@@ -28,7 +28,7 @@ use Rattle.run.specs.declared.State.{State}
 
 -- what a call computes with
 computed : Unit {0}
-unfolding lowest sized? decLe rightLengths? ℕ-discrete stagesIn fromTo? stageInRange? eachStage? allBelow? inRange? allZero? formedSide? wellFormed? eachBelow decLt
+unfolding firstOf sized? decLe rightLengths? ℕ-discrete stagesIn fromTo? stageInRange? eachStage? allBelow? inRange? allZero? formedSide? wellFormed? eachBelow decLt
     possible? someBelow image afterStages dot parity ones inOrder put
 computed = tt
 

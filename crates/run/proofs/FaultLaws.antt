@@ -53,19 +53,19 @@ module _ {k : ℕ} {cs : List ℕ} where
         second = λ j h w. not-above (wantOneBank? k cs (firstPort k cs)) (length cs) j w;
       }
 
-  module _ {p q : ℕ} (lowest : LowestPair k cs p q) where
+  module _ {p q : ℕ} (firstOf : LowestPair k cs p q) where
     pub pair-clash : Clash k cs
-    pair-clash = (p, omega arith, (q, lowest .inside, lowest .one-bank))
+    pair-clash = (p, omega arith, (q, firstOf .inside, firstOf .one-bank))
 
     first-port : firstPort k cs ≡ p
     unfolding pair-clash
-    first-port = found-least (laterPort? k cs) (length cs) p (pair-clash .1) (pair-clash .2) (λ i l (j, h, w). omega (arith, lowest .first i j h w))
+    first-port = found-least (laterPort? k cs) (length cs) p (pair-clash .1) (pair-clash .2) (λ i l (j, h, w). omega (arith, firstOf .first i j h w))
 
     pub first-pair-named : (firstPort k cs ≡ p) × (secondPort k cs ≡ q)
     first-pair-named = (
       first-port,
       rw first-port (
-          found-least (wantOneBank? k cs p) (length cs) q (lowest .inside) (lowest .one-bank) (λ j l w. omega (arith, lowest .second j (omega arith) w))),
+          found-least (wantOneBank? k cs p) (length cs) q (firstOf .inside) (firstOf .one-bank) (λ j l w. omega (arith, firstOf .second j (omega arith) w))),
     )
 
 no-pair : {A : Type 0} {p q : Port} → Nowhere ≡ Between p q → A
@@ -83,9 +83,9 @@ module _ (k : ℕ) (cs : List ℕ) where
     between : (d : Dec (Clash k cs)) → pairFrom k cs d ≡ Between p q ↔ LowestPair k cs (p .0) (q .0)
     between (yes c) = (
       λ e. let first : firstPort k cs ≡ p .0 = cc in let second : secondPort k cs ≡ q .0 = cc in rw (← first, ← second) (first-pair-law c),
-      λ lowest. let (first, second) = first-pair-named lowest in rw (second, first),
+      λ firstOf. let (first, second) = first-pair-named firstOf in rw (second, first),
     )
-    between (no n) = (λ e. no-pair e, λ lowest. absurd (n (pair-clash lowest)))
+    between (no n) = (λ e. no-pair e, λ firstOf. absurd (n (pair-clash firstOf)))
 
     pub pair-between : firstPair k cs ≡ Between p q ↔ LowestPair k cs (p .0) (q .0)
     pair-between = between (clash? k cs)

@@ -12,10 +12,10 @@ use native.Mathlib.Omega.{arith}
 use lib.ListN.{length}
 use Rattle.kinds.specs.Edition.{Edition, Sized, sized?}
 use Rattle.kinds.specs.Frame.{ticks}
-use Rattle.kinds.specs.Lowest.{Reason, lowest, Ascending}
+use Rattle.kinds.specs.First.{Reason, firstOf, Ascending}
 use Rattle.kinds.specs.Reasons.{RightLengths, rightLengths?}
 use Rattle.kinds.proofs.TruthLaws.{stable}
-use Rattle.kinds.proofs.LowestLaws.{lowest-none}
+use Rattle.kinds.proofs.FirstLaws.{first-none}
 use Rattle.sheet.specs.Layout.{WellFormed, wellFormed?}
 use Rattle.sheet.specs.Table.{sheetLengths}
 use Rattle.maps.specs.Cells.{M, N}
@@ -52,10 +52,10 @@ module _ (e : Edition) (n k : ℕ) (s : List ℕ) (st : State) (ws : List ℕ) (
   pub run-ascending : Ascending runTable
   run-ascending = (omega arith, omega arith)
 
-  pub run-sound : lowest runTable ≡ none ↔ Sound
+  pub run-sound : firstOf runTable ≡ none ↔ Sound
   run-sound = (
     λ none-given.
-        let (sizes, (lent, (layout, (state, (clash, (filled, (crossed, (empty, _)))))))) = lowest-none runTable .0 none-given in
+        let (sizes, (lent, (layout, (state, (clash, (filled, (crossed, (empty, _)))))))) = first-none runTable .0 none-given in
         record {
           sized = stable (sized? e n k) sizes;
           right = stable (rightLengths? lengths) lent;
@@ -67,7 +67,7 @@ module _ (e : Edition) (n k : ℕ) (s : List ℕ) (st : State) (ws : List ℕ) (
           reads-filled = empty;
         },
     λ ok.
-        lowest-none runTable .1 (
+        first-none runTable .1 (
           λ outside. outside (ok .sized),
           (λ wrong. wrong (ok .right), (λ broken. broken (ok .formed), (λ not. not (ok .possible), (ok .writes-apart, (ok .writes-empty, (ok .reads-apart, (ok .reads-filled, tt))))))),
         ),

@@ -11,9 +11,9 @@ use mathlib.Core.List.{List, [], _++_}
 use mathlib.Core.Option.{none, some}
 use Rattle.kinds.specs.Edition.{Edition}
 use Rattle.kinds.specs.Frame.{ticks}
-use Rattle.kinds.specs.Lowest.{Reason, lowest}
+use Rattle.kinds.specs.First.{Reason, firstOf}
 use Rattle.kinds.specs.declared.Refusal.{Refusal}
-use Rattle.kinds.proofs.LowestLaws.{none-some}
+use Rattle.kinds.proofs.FirstLaws.{none-some}
 use Rattle.maps.specs.Cells.{M, N}
 use Rattle.run.specs.Memory.{Memory, wordsAt, served, onto}
 use Rattle.run.specs.Faults.{faults}
@@ -29,20 +29,20 @@ comes-by : {o x : Outcome} {st : State} {out : List ℕ} {a : Ticked} {m' : Memo
 comes-by e c = rw e c
 
 module _ (t : List Reason) (n k : ℕ) (f g : ℕ → ℕ) (st : State) (ws : List ℕ) (m : Memory) (out : List ℕ) {m' : Memory} {out' : List ℕ} where
-  pub comes-refused : {x : Refusal} → lowest (t ++ faults k (writesOf n k f st ws) (readsOf n k g st) (m .marks)) ≡ some x → m' ≡ m → out' ≡ out
+  pub comes-refused : {x : Refusal} → firstOf (t ++ faults k (writesOf n k f st ws) (readsOf n k g st) (m .marks)) ≡ some x → m' ≡ m → out' ≡ out
       → ComesOf (call t n k f g st ws m) st out (Refused x) m' out'
   comes-refused given memory buffer =
       comes-by (call-refused t n k f g st ws m (call-given t n k f g st ws m ∙ given))
       (record { refusal = refl; state = refl; handed = refl; memory = memory; buffer = buffer })
 
-  pub comes-done : {st' : State} {handed : Bool} → lowest (t ++ faults k (writesOf n k f st ws) (readsOf n k g st) (m .marks)) ≡ none
+  pub comes-done : {st' : State} {handed : Bool} → firstOf (t ++ faults k (writesOf n k f st ws) (readsOf n k g st) (m .marks)) ≡ none
       → st' ≡ next (ticks n k) st ws → handed ≡ reading (ticks n k) st → m' ≡ served (accessOf n k f g st ws) m
       → out' ≡ onto (wordsAt (readsOf n k g st) (m .words)) out → ComesOf (call t n k f g st ws m) st out (Done st' handed) m' out'
   comes-done given state handed memory buffer =
       comes-by (call-done t n k f g st ws m (call-given t n k f g st ws m ∙ given))
       (record { refusal = refl; state = state; handed = handed; memory = memory; buffer = buffer })
 
-  pub comes-past : {a : Ticked} → lowest t ≡ none → ComesOf (call [] n k f g st ws m) st out a m' out' → ComesOf (call t n k f g st ws m) st out a m' out'
+  pub comes-past : {a : Ticked} → firstOf t ≡ none → ComesOf (call [] n k f g st ws m) st out a m' out' → ComesOf (call t n k f g st ws m) st out a m' out'
   comes-past given = comes-by (call-past t n k f g st ws m given)
 
 module _ (e : Edition) (n k : ℕ) (s : List ℕ) (st : State) (ws : List ℕ) (m : Memory) (out : List ℕ) where

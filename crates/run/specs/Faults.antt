@@ -21,7 +21,7 @@ use lib.ListN.{length, getD}
 use Rattle.kinds.specs.Decided.{both, opposite}
 use Rattle.kinds.specs.Frame.{bankOf}
 use Rattle.kinds.specs.Search.{someBelow, found}
-use Rattle.kinds.specs.Lowest.{Reason}
+use Rattle.kinds.specs.First.{Reason}
 use Rattle.kinds.specs.declared.Port.{Port}
 use Rattle.kinds.specs.declared.Refusal.{Refusal}
 use Rattle.kinds.specs.declared.Refusal.the-variants.{WriteClash, Overwrite, ReadClash, EmptyRead}

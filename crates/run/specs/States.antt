@@ -13,7 +13,7 @@ use mathlib.Core.List.{List, [], _∷_}
 use native.Mathlib.Decide.{decLt, decLe}
 use lib.Dec.{ltb, eqb}
 use Rattle.kinds.specs.Decided.{both, through}
-use Rattle.kinds.specs.Lowest.{Reason, unless}
+use Rattle.kinds.specs.First.{Reason, unless}
 use Rattle.kinds.specs.declared.Refusal.the-variants.{State as Impossible}
 use Rattle.run.specs.declared.State.{State}
 

@@ -16,7 +16,7 @@ use mathlib.Core.Option.{Option, none, some}
 use lib.ListN.{length}
 use Rattle.kinds.specs.Edition.{Edition}
 use Rattle.kinds.specs.Frame.{ticks}
-use Rattle.kinds.specs.Lowest.{Reason}
+use Rattle.kinds.specs.First.{Reason}
 use Rattle.kinds.specs.declared.Refusal.{Refusal}
 use Rattle.sheet.specs.Table.{sheetTable}
 use Rattle.maps.specs.Cells.{M, N}

@@ -5,7 +5,7 @@ ghost use Prim.Native.Nat.{_^_, _≤_};
 ghost use lib.ListN.{length};
 ghost use Rattle.kinds.specs.Answers.{Says};
 ghost use Rattle.kinds.specs.Edition.{edition1};
-ghost use Rattle.kinds.specs.Lowest.{lowest};
+ghost use Rattle.kinds.specs.First.{firstOf};
 ghost use Rattle.kinds.specs.Reasons.{RightLengths};
 ghost use Rattle.kinds.specs.Refusal.{said};
 ghost use Rattle.run.specs.Memory.{put, marked, wordsAt, onto};
@@ -250,7 +250,7 @@ fn first_fault(k: u32, writes: &[u32], reads: &[u32], marks: &[u8]) -> Answer
     requires { ⌜ 2 ^ k ≤ mostBanks ⌝ }
     requires { ⌜ Reaches (now writes) (now marks) ⌝ }
     requires { ⌜ Reaches (now reads) (now marks) ⌝ }
-    ensures { λ r. ⌜ said r ≡ lowest (faults k (now (writes .entry)) (now (reads .entry)) (now (marks .entry))) ⌝ }
+    ensures { λ r. ⌜ said r ≡ firstOf (faults k (now (writes .entry)) (now (reads .entry)) (now (marks .entry))) ⌝ }
 {
     let write_pair = first_pair(k, writes);
     if let Pair::Between(p, q) = write_pair {

@@ -9,7 +9,7 @@ use lib.Count.{ones}
 use lib.ListN.{set, replicate}
 use Rattle.kinds.specs.Edition.{edition1, sized?}
 use Rattle.kinds.specs.Refusal.{given}
-use Rattle.kinds.specs.Lowest.{lowest}
+use Rattle.kinds.specs.First.{firstOf}
 use Rattle.kinds.specs.Reasons.{rightLengths?}
 use Rattle.kinds.specs.Search.{eachBelow}
 use Rattle.bits.specs.Image.{allBelow?}
@@ -32,7 +32,7 @@ unfolding stagesIn
 read-off = (refl, refl)
 
 abbrev answer : ℕ → ℕ → List ℕ → ℕ
-answer n k s = given (lowest (sheetTable edition1 n k s []))
+answer n k s = given (firstOf (sheetTable edition1 n k s []))
 
 -- the answers where one place of the reversal sheet holds another number, on the write side and on the read side
 abbrev spoilt : ℕ × ℕ → ℕ × ℕ
@@ -61,7 +61,7 @@ answers : (map (λ (n, k, s). answer n k s) (
     ) ≡ replicate 14 (5, 5))
     × (map (λ m. answer 10 5 (staged m ++ staged 8)) (7 ∷ 8 ∷ 9 ∷ []) ≡ 5 ∷ 0 ∷ 5 ∷ [])
     × (map (λ (a, m). answer 2 2 (one-tick a m ++ one-tick 0 0)) ((0, 0) ∷ (0, 1) ∷ (1, 0) ∷ []) ≡ 0 ∷ 5 ∷ 5 ∷ [])
-unfolding lowest sized? decLe rightLengths? ℕ-discrete stagesIn fromTo? stageInRange? eachStage? allBelow? inRange? allZero? formedSide? wellFormed? eachBelow decLt
+unfolding firstOf sized? decLe rightLengths? ℕ-discrete stagesIn fromTo? stageInRange? eachStage? allBelow? inRange? allZero? formedSide? wellFormed? eachBelow decLt
 answers = (refl, refl, refl, refl, refl)
 
 prices : (priceOf edition1 3 1 reversal ≡ 2 ∷ 2 ∷ 0 ∷ []) × (priceOf edition1 10 5 (staged 8 ++ staged 8) ≡ 256 ∷ 256 ∷ 64 ∷ [])

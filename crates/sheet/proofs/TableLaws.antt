@@ -16,11 +16,11 @@ use Rattle.kinds.specs.Answers.{Checks}
 use Rattle.kinds.specs.Refusal.{said}
 use Rattle.kinds.specs.declared.Answer.{Answer}
 use Rattle.kinds.specs.declared.Answer.the-variants.{Done}
-use Rattle.kinds.specs.Lowest.{lowest, Ascending}
+use Rattle.kinds.specs.First.{firstOf, Ascending}
 use Rattle.kinds.specs.Reasons.{RightLengths, rightLengths?}
 use Rattle.kinds.proofs.TruthLaws.{stable}
 use Rattle.kinds.proofs.AnswerLaws.{some-lengths, answers-same}
-use Rattle.kinds.proofs.LowestLaws.{none-some, lowest-none}
+use Rattle.kinds.proofs.FirstLaws.{none-some, first-none}
 use Rattle.sheet.specs.Layout.{WellFormed, wellFormed?}
 use Rattle.sheet.specs.Table.{sheetLengths, sheetTable}
 use Rattle.sheet.specs.Price.{Prices}
@@ -32,16 +32,16 @@ module _ (e : Edition) (n k : ℕ) (s : List ℕ) (others : List (ℕ × ℕ)) w
   pub sheet-ascending : Ascending (sheetTable e n k s others)
   sheet-ascending = ((omega arith, (omega arith, tt)), ((omega arith, tt), (tt, tt)))
 
-  pub sheet-sound : lowest (sheetTable e n k s others) ≡ none ↔ (Sized e n k × RightLengths (sheetLengths e s ++ others) × WellFormed e n k s)
+  pub sheet-sound : firstOf (sheetTable e n k s others) ≡ none ↔ (Sized e n k × RightLengths (sheetLengths e s ++ others) × WellFormed e n k s)
   sheet-sound = (
     λ none-given.
-        let none-applies = lowest-none (sheetTable e n k s others) .0 none-given in (
+        let none-applies = first-none (sheetTable e n k s others) .0 none-given in (
           stable (sized? e n k) (none-applies .0),
           stable (rightLengths? (sheetLengths e s ++ others)) (none-applies .1 .0),
           stable (wellFormed? e n k s) (none-applies .1 .1 .0),
         ),
     λ (sized, right, formed).
-        lowest-none (sheetTable e n k s others) .1 (λ out. out sized, (λ wrong. wrong right, (λ broken. broken formed, tt))),
+        first-none (sheetTable e n k s others) .1 (λ out. out sized, (λ wrong. wrong right, (λ broken. broken formed, tt))),
   )
 
 pub check-sound : {e : Edition} {n k : ℕ} {s : List ℕ} {r : Answer} (fits : Bool) → Checks (sheetTable e n k s) fits r → r ≡ Done

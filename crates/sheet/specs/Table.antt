@@ -6,7 +6,7 @@ use Prim.Native.Nat.{ℕ}
 use mathlib.Core.List.{List, [], _∷_, _++_}
 use lib.ListN.{length}
 use Rattle.kinds.specs.Edition.{Edition, sheetPlaces, sized?}
-use Rattle.kinds.specs.Lowest.{Reason, unless}
+use Rattle.kinds.specs.First.{Reason, unless}
 use Rattle.kinds.specs.Reasons.{outside, wrongLength}
 use Rattle.kinds.specs.declared.Refusal.the-variants.{Layout}
 use Rattle.sheet.specs.Layout.{wellFormed?}

@@ -14,7 +14,7 @@ use lib.ListN.{length}
 use Rattle.kinds.specs.Answers.{Answers}
 use Rattle.kinds.specs.Edition.{Edition, sized?}
 use Rattle.kinds.specs.Frame.{ticks, inOrder}
-use Rattle.kinds.specs.Lowest.{Reason}
+use Rattle.kinds.specs.First.{Reason}
 use Rattle.kinds.specs.Refusal.{said}
 use Rattle.kinds.specs.Search.{someBelow, found}
 use Rattle.kinds.specs.declared.Answer.{Answer}

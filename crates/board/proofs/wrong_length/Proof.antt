@@ -2,7 +2,7 @@
 use mathlib.Core.Path.{sym, ap, _∙_}
 use borrow.Author.Needs.{needs}
 use Rattle.kinds.specs.Refusal.{given}
-use Rattle.kinds.proofs.LowestLaws.{lowest-take, lowest-skip}
+use Rattle.kinds.proofs.FirstLaws.{first-take, first-skip}
 use Rattle.kinds.proofs.TruthLaws.{denied}
 use Rattle.board.proofs.wrong_length.Statement.{statement}
 use Rattle.board.proofs.wrong_length.Tie as tie
@@ -11,10 +11,10 @@ sized-requires : tie.Need-sized-requires
 sized-requires c κs = search needs
 
 returns : tie.Need-returns
-returns c l wrong = ap given (sym (lowest-skip _ _ (λ out. out (c .before .sized .ensures .0 (c .if1 .taken))) ∙ lowest-take _ _ wrong))
+returns c l wrong = ap given (sym (first-skip _ _ (λ out. out (c .before .sized .ensures .0 (c .if1 .taken))) ∙ first-take _ _ wrong))
 
 returns-2 : tie.Need-returns-2
-returns-2 c l wrong = ap given (sym (lowest-take _ _ (denied (c .before .sized .ensures) (c .if1 .left))))
+returns-2 c l wrong = ap given (sym (first-take _ _ (denied (c .before .sized .ensures) (c .if1 .left))))
 
 pub wrong-length-spec : {M : Type 1} → statement M
 wrong-length-spec = tie.close (tie.spec sized-requires returns returns-2)

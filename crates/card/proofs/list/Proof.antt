@@ -7,7 +7,7 @@ use borrow.Author.Needs.{needs}
 use borrow.Author.Tests.{not-true, not-false}
 use lib.ListN.{length, take}
 use Rattle.kinds.specs.Edition.{edition1, Sized, sized?}
-use Rattle.kinds.specs.Lowest.{lowest}
+use Rattle.kinds.specs.First.{firstOf}
 use Rattle.kinds.specs.Reasons.{RightLengths}
 use Rattle.kinds.specs.Refusal.{said}
 use Rattle.kinds.specs.declared.Answer.the-variants.{Done}
@@ -57,7 +57,7 @@ module _ (c : tie.After-check-with-k) where
   readable : R at .answer ≡ Done
   readable = c .before .before .before .before .before .before .is-done .ensures .0 (not-false _ (c .before .before .before .before .before .if1 .left))
 
-  says : said (c .check-with-k .result) ≡ lowest (cardTable edition1 (b at) lengths)
+  says : said (c .check-with-k .result) ≡ firstOf (cardTable edition1 (b at) lengths)
   says = c .check-with-k .ensures lengths (c .before .before .before .before .lent-right .ensures) ∙ order-on-card (at .read .ensures) readable lengths
 
   module _ (done : c .check-with-k .result ≡ Done) where

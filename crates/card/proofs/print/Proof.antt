@@ -8,7 +8,7 @@ use borrow.Author.Needs.{needs}
 use mir.Facts.{fits-widen}
 use lib.ListN.{length, getD, take}
 use Rattle.kinds.specs.Edition.{edition1}
-use Rattle.kinds.specs.Lowest.{lowest}
+use Rattle.kinds.specs.First.{firstOf}
 use Rattle.kinds.specs.Refusal.{said}
 use Rattle.kinds.specs.declared.Refusal.{Refusal}
 use Rattle.text.specs.Decimal.{codes}
@@ -36,8 +36,8 @@ module _ (c : tie.After-list) where
   whole : length t ≡ room
   whole = omega (arith, slice-aggregate-list (c .before))
 
-  said-by : lowest (cardTable edition1 b []) ≡ said (c .list .result)
-  said-by = sym (lengths-right b (listLengths t (0 ∷ [])) (omega (arith, whole), (refl, tt))) ∙ sym (c .list .ensures .lowest-of)
+  said-by : firstOf (cardTable edition1 b []) ≡ said (c .list .result)
+  said-by = sym (lengths-right b (listLengths t (0 ∷ [])) (omega (arith, whole), (refl, tt))) ∙ sym (c .list .ensures .first-of)
 
 list-requires : tie.Need-list-requires
 list-requires c κs = search needs
@@ -67,7 +67,7 @@ returns : tie.Need-returns
 returns c =
     let made = c .before .before .before .before .before .before in
     let (text, size) = made .list .ensures .done (ap said (c .before .before .before .enum-told .given .1)) in
-    let none : lowest (cardTable edition1 (b made) []) ≡ none = said-by made ∙ ap said (c .before .before .before .enum-told .given .1) in
+    let none : firstOf (cardTable edition1 (b made) []) ≡ none = said-by made ∙ ap said (c .before .before .before .enum-told .given .1) in
     record {
       length-of = ap (λ (l : List ℕ). getD (take 1 l) 0 0) size ∙ ap (λ (o : Option Refusal). length (textFor o (b made))) (sym none);
       text = text ∙ ap (λ (o : Option Refusal). onto (textFor o (b made)) (t made)) (sym none);

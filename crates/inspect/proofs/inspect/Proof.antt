@@ -9,12 +9,12 @@ use borrow.Author.Needs.{needs}
 use borrow.Author.Tests.{not-true, not-false}
 use Rattle.kinds.specs.Edition.{edition1, Sized, sized?}
 use Rattle.kinds.specs.Refusal.{said}
-use Rattle.kinds.specs.Lowest.{Reason, lowest}
+use Rattle.kinds.specs.First.{Reason, firstOf}
 use Rattle.kinds.specs.Reasons.{RightLengths}
 use Rattle.kinds.specs.declared.Answer.the-variants.{Done}
 use Rattle.kinds.proofs.TruthLaws.{says-yes, denied}
 use Rattle.kinds.proofs.AnswerLaws.{said-before, one-length}
-use Rattle.kinds.proofs.LowestLaws.{lowest-none, lowest-skip, lowest-append}
+use Rattle.kinds.proofs.FirstLaws.{first-none, first-skip, first-append}
 use Rattle.order.specs.Order.{Order}
 use Rattle.order.specs.Table.{orderTable}
 use Rattle.order.proofs.TableLaws.{order-sound}
@@ -51,7 +51,7 @@ module _ (c : tie.After-is-done) where
   abbrev first : List Reason
   first = orderTable (sized? edition1 n k) n C (sheetLengths edition1 sheet)
 
-  says : said (c .before .check-with-k .result) ≡ lowest first
+  says : said (c .before .check-with-k .result) ≡ firstOf first
   says = c .before .check-with-k .ensures (sheetLengths edition1 sheet) (one-length _ _)
 
 -- the columns are an order, and the sheet has its places
@@ -59,23 +59,23 @@ module _ (c : tie.After-is-done2) where
   abbrev at : tie.After-is-done
   at = c .before .before .before
 
-  none-given : lowest (first at) ≡ none
+  none-given : firstOf (first at) ≡ none
   none-given = sym (says at) ∙ ap said (at .is-done .ensures .0 (not-false _ (c .before .before .if1 .left)))
 
   sound : Sized edition1 (n at) (k at) × RightLengths (sheetLengths edition1 (sheet at)) × Order (n at) (C at)
   sound = order-sound (sized? edition1 (n at) (k at)) (n at) (C at) (sheetLengths edition1 (sheet at)) .0 none-given
 
-  left : (t : List Reason) → lowest (first at ++ t) ≡ lowest t
-  left t = lowest-append (first at) t (lowest-none (first at) .0 none-given)
+  left : (t : List Reason) → firstOf (first at ++ t) ≡ firstOf t
+  left t = first-append (first at) t (first-none (first at) .0 none-given)
 
   abbrev opened : Opened
   opened = c .before .«open» .result
 
-  says-5 : said (opened .answer) ≡ lowest (brokenLayout edition1 (n at) (k at) (sheet at) ∷ [])
+  says-5 : said (opened .answer) ≡ firstOf (brokenLayout edition1 (n at) (k at) (sheet at) ∷ [])
   says-5 =
       c .before .«open» .ensures .answer [] (says-yes tt)
-      ∙ lowest-skip _ _ (λ outside. outside (sound .0))
-      ∙ lowest-skip _ _ (λ wrong. wrong (sound .1))
+      ∙ first-skip _ _ (λ outside. outside (sound .0))
+      ∙ first-skip _ _ (λ wrong. wrong (sound .1))
 
   formed : opened .answer ≡ Done → WellFormed edition1 (n at) (k at) (sheet at)
   formed done = check-sound true (c .before .«open» .ensures .answer) done .2
@@ -108,7 +108,7 @@ returns-3 c =
     let opens = layout .before .«open» .ensures in
     inspects-by
     (c .judge .ensures (sheet (at layout)) (opens .write done) (opens .read done)
-    ∙ sym (lowest-skip _ _ (λ broken. broken (formed layout done)))
+    ∙ sym (first-skip _ _ (λ broken. broken (formed layout done)))
     ∙ sym (left layout _))
 
 pub inspect-spec : {M : Type 1} → statement M

@@ -10,10 +10,10 @@ use borrow.Author.Tests.{not-true, not-false}
 use lib.ListN.{length, getD, take, drop}
 use Rattle.kinds.specs.Answers.{Says}
 use Rattle.kinds.specs.Edition.{edition1}
-use Rattle.kinds.specs.Lowest.{Reason, lowest}
+use Rattle.kinds.specs.First.{Reason, firstOf}
 use Rattle.kinds.specs.declared.Refusal.the-variants.{SharedCell, Differs}
 use Rattle.kinds.proofs.TruthLaws.{stable, denied}
-use Rattle.kinds.proofs.LowestLaws.{lowest-nil, lowest-take, lowest-skip}
+use Rattle.kinds.proofs.FirstLaws.{first-nil, first-take, first-skip}
 use Rattle.bits.proofs.ImageLaws.{columns-length}
 use Rattle.span.specs.Sums.{Independent}
 use Rattle.order.specs.Order.{place}
@@ -136,30 +136,30 @@ module _ (c : tie.After-agree) (s : List ℕ) where
         let tells = columns-tell write read C in
         (λ e. tells .1 (λ j h. sym (column j) ∙ agrees .0 e j h), λ same. agrees .1 (λ j h. column j ∙ tells .0 same j h))
 
-    past-6 : write-wired .independent .result ≡ true → lowest table ≡ lowest (drop 1 table)
-    past-6 ok = lowest-skip _ _ (λ wrong. wrong (says-6 .0 ok))
+    past-6 : write-wired .independent .result ≡ true → firstOf table ≡ firstOf (drop 1 table)
+    past-6 ok = first-skip _ _ (λ wrong. wrong (says-6 .0 ok))
 
-    past-7 : read-wired .independent2 .result ≡ true → lowest (drop 1 table) ≡ lowest (drop 2 table)
-    past-7 ok = lowest-skip _ _ (λ wrong. wrong (says-7 .0 ok))
+    past-7 : read-wired .independent2 .result ≡ true → firstOf (drop 1 table) ≡ firstOf (drop 2 table)
+    past-7 ok = first-skip _ _ (λ wrong. wrong (says-7 .0 ok))
 
-    past-8 : own .independent3 .result ≡ true → lowest (drop 2 table) ≡ lowest (drop 3 table)
-    past-8 ok = lowest-skip _ _ (says-8 .0 ok)
+    past-8 : own .independent3 .result ≡ true → firstOf (drop 2 table) ≡ firstOf (drop 3 table)
+    past-8 ok = first-skip _ _ (says-8 .0 ok)
 
-    gives-8 : own .independent3 .result ≡ false → lowest (drop 2 table) ≡ some SharedCell
-    gives-8 no-own = lowest-take _ _ (stable (shareCell? n (M edition1 n k s)) (denied says-8 no-own))
+    gives-8 : own .independent3 .result ≡ false → firstOf (drop 2 table) ≡ some SharedCell
+    gives-8 no-own = first-take _ _ (stable (shareCell? n (M edition1 n k s)) (denied says-8 no-own))
 
-    gives-9 : c .agree .result ≡ false → lowest (drop 3 table) ≡ some Differs
-    gives-9 differ = lowest-take _ _ (stable (differ? n (M edition1 n k s) (N edition1 n k s) (place C)) (denied says-9 differ))
+    gives-9 : c .agree .result ≡ false → firstOf (drop 3 table) ≡ some Differs
+    gives-9 differ = first-take _ _ (stable (differ? n (M edition1 n k s) (N edition1 n k s) (place C)) (denied says-9 differ))
 
 returns : tie.Need-returns
-returns c s write read = sym (lowest-take _ _ (denied (says-6 (c .before) s write read) (not-true _ (c .if1 .taken))))
+returns c s write read = sym (first-take _ _ (denied (says-6 (c .before) s write read) (not-true _ (c .if1 .taken))))
 
 returns-2 : tie.Need-returns-2
 returns-2 c s write read =
     let at = c .before .before in
     sym
     (past-6 at s write read (not-false _ (c .before .if1 .left))
-    ∙ lowest-take _ _ (denied (says-7 at s write read) (not-true _ (c .if2 .taken))))
+    ∙ first-take _ _ (denied (says-7 at s write read) (not-true _ (c .if2 .taken))))
 
 returns-3 : tie.Need-returns-3
 returns-3 c s write read =
@@ -171,7 +171,7 @@ returns-3 c s write read =
 
 -- past 6 to 8
 past : (c : tie.Else3) (s : List ℕ) → let at = c .before .before .before in
-    Shows (n at s) (k at s) (start at s .args .write) (W at s) → Shows (n at s) (k at s) (start at s .args .read) (R at s) → lowest (table at s) ≡ lowest (drop 3 (table at s))
+    Shows (n at s) (k at s) (start at s .args .write) (W at s) → Shows (n at s) (k at s) (start at s .args .read) (R at s) → firstOf (table at s) ≡ firstOf (drop 3 (table at s))
 past c s write read =
     let at = c .before .before .before in
     past-6 at s write read (not-false _ (c .before .before .if1 .left)) ∙ past-7 at s write read (not-false _ (c .before .if2 .left)) ∙ past-8 at s write read (not-false _ (c .if3 .left))
@@ -183,8 +183,8 @@ returns-5 : tie.Need-returns-5
 returns-5 c s write read =
     sym
     (past (c .before) s write read
-    ∙ lowest-skip _ _ (says-9 (c .before .before .before .before) s write read .0 (not-false _ (c .if4 .left)))
-    ∙ lowest-nil)
+    ∙ first-skip _ _ (says-9 (c .before .before .before .before) s write read .0 (not-false _ (c .if4 .left)))
+    ∙ first-nil)
 
 pub judge-spec : {M : Type 1} → statement M
 judge-spec =

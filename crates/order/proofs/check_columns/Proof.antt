@@ -9,7 +9,7 @@ use borrow.Author.Needs.{needs}
 use borrow.Author.Tests.{not-true, not-false}
 use lib.ListN.{length}
 use Rattle.kinds.specs.Refusal.{said}
-use Rattle.kinds.specs.Lowest.{lowest}
+use Rattle.kinds.specs.First.{firstOf}
 use Rattle.kinds.specs.Reasons.{RightLengths}
 use Rattle.kinds.specs.Answers.{Says}
 use Rattle.kinds.specs.declared.Answer.the-variants.{Refused}
@@ -17,7 +17,7 @@ use Rattle.kinds.specs.declared.Refusal.{Refusal}
 use Rattle.kinds.specs.declared.Refusal.the-variants.{Length}
 use Rattle.kinds.proofs.TruthLaws.{denied}
 use Rattle.kinds.proofs.AnswerLaws.{not-both}
-use Rattle.kinds.proofs.LowestLaws.{lowest-nil, lowest-take, lowest-skip}
+use Rattle.kinds.proofs.FirstLaws.{first-nil, first-take, first-skip}
 use Rattle.span.proofs.ToolLaws.{scans-independent}
 use Rattle.order.specs.Table.{tooLarge, dependent, columnTable}
 use Rattle.order.specs.Inside.{ChecksColumns}
@@ -28,7 +28,7 @@ use Rattle.order.proofs.check_columns.Tie as tie
 
 record Gives (n : ℕ) (C : List ℕ) (fits : Bool) (o : Option Refusal) : Type 0 where
   gives : (others : List (ℕ × ℕ)) → Says fits (RightLengths others)
-      → lowest (columnTable n C others) ≡ o
+      → firstOf (columnTable n C others) ≡ o
 
 module _ {n : ℕ} {C : List ℕ} {fits : Bool} where
   refuses : {x : Refusal} {r : Checked} → r .answer ≡ Refused x → Gives n C fits (some x) → ChecksColumns n C fits r
@@ -38,13 +38,13 @@ module _ {n : ℕ} {C : List ℕ} {fits : Bool} where
   }
 
   other-length : fits ≡ false → Gives n C fits (some Length)
-  other-length wrong = record { gives = λ others f. lowest-take _ _ (λ right. denied f wrong (right .1)) }
+  other-length wrong = record { gives = λ others f. first-take _ _ (λ right. denied f wrong (right .1)) }
 
   own-length : ¬ (length C ≡ n) → Gives n C fits (some Length)
-  own-length wrong = record { gives = λ others f. lowest-take _ _ (λ right. wrong (right .0)) }
+  own-length wrong = record { gives = λ others f. first-take _ _ (λ right. wrong (right .0)) }
 
-  past-2 : {o : Option Refusal} → length C ≡ n → fits ≡ true → lowest (tooLarge n C ∷ dependent C ∷ []) ≡ o → Gives n C fits o
-  past-2 count fit e = record { gives = λ others f. lowest-skip _ _ (λ wrong. wrong (count, f .0 fit)) ∙ e }
+  past-2 : {o : Option Refusal} → length C ≡ n → fits ≡ true → firstOf (tooLarge n C ∷ dependent C ∷ []) ≡ o → Gives n C fits o
+  past-2 count fit e = record { gives = λ others f. first-skip _ _ (λ wrong. wrong (count, f .0 fit)) ∙ e }
 
 refused-requires : tie.Need-refused-requires
 refused-requires c κs = search needs
@@ -78,22 +78,22 @@ module _ (c : tie.After-scan-all) where
   abbrev C : List ℕ
   C = start .args .columns .now
 
-  past-lengths : {o : Option Refusal} → lowest (tooLarge (start .args .n) C ∷ dependent C ∷ []) ≡ o → Gives (start .args .n) C (start .args .fits) o
+  past-lengths : {o : Option Refusal} → firstOf (tooLarge (start .args .n) C ∷ dependent C ∷ []) ≡ o → Gives (start .args .n) C (start .args .fits) o
   past-lengths = past-2 (c .before .before .if2 .left) (not-false _ (c .before .before .before .if1 .left))
 
-  past-3 : {o : Option Refusal} → c .before .within-bits .result ≡ true → lowest (dependent C ∷ []) ≡ o → Gives (start .args .n) C (start .args .fits) o
-  past-3 small e = past-lengths (lowest-skip _ _ (λ (j, l, large). omega (arith, c .before .within-bits .ensures .0 small j l, large)) ∙ e)
+  past-3 : {o : Option Refusal} → c .before .within-bits .result ≡ true → firstOf (dependent C ∷ []) ≡ o → Gives (start .args .n) C (start .args .fits) o
+  past-3 small e = past-lengths (first-skip _ _ (λ (j, l, large). omega (arith, c .before .within-bits .ensures .0 small j l, large)) ∙ e)
 
 returns-3 : tie.Need-returns-3
 returns-3 c =
     let scanned = c .before .before in
-    refuses (c .refused3 .ensures) (past-lengths scanned (lowest-take _ _ (too-large _ (C scanned) (denied (scanned .before .within-bits .ensures) (not-true _ (c .before .if3 .taken))))))
+    refuses (c .refused3 .ensures) (past-lengths scanned (first-take _ _ (too-large _ (C scanned) (denied (scanned .before .within-bits .ensures) (not-true _ (c .before .if3 .taken))))))
 
 returns-4 : tie.Need-returns-4
 returns-4 c =
     let scanned = c .before .before .before in
     refuses (c .refused4 .ensures)
-    (past-3 scanned (not-false _ (c .before .before .if3 .left)) (lowest-take _ _ (denied (scanned .scan-all .ensures .says) (not-true _ (c .before .if4 .taken)))))
+    (past-3 scanned (not-false _ (c .before .before .if3 .left)) (first-take _ _ (denied (scanned .scan-all .ensures .says) (not-true _ (c .before .if4 .taken)))))
 
 returns-5 : tie.Need-returns-5
 returns-5 c =
@@ -102,7 +102,7 @@ returns-5 c =
     let independent = scanned .scan-all .ensures .says .0 says in
     record {
       answer = λ others f.
-          sym (past-3 scanned (not-false _ (c .before .before .if3 .left)) (lowest-skip _ _ (λ d. d independent) ∙ lowest-nil) .gives others f);
+          sym (past-3 scanned (not-false _ (c .before .before .if3 .left)) (first-skip _ _ (λ d. d independent) ∙ first-nil) .gives others f);
       holds = λ d. scans-independent (scanned .scan-all .ensures) (λ j h. scanned .before .before .before .before .shared-slice-known .given j .fits) says;
     }
 

@@ -9,7 +9,7 @@ use borrow.Author.Tests.{not-true, not-false}
 use lib.ListN.{length}
 use Rattle.kinds.specs.Edition.{edition1, SizedN, sizedN?}
 use Rattle.kinds.specs.Refusal.{said}
-use Rattle.kinds.specs.Lowest.{lowest}
+use Rattle.kinds.specs.First.{firstOf}
 use Rattle.kinds.specs.declared.Answer.the-variants.{Done}
 use Rattle.kinds.proofs.TruthLaws.{denied}
 use Rattle.kinds.proofs.AnswerLaws.{one-length, refuses, does}
@@ -38,7 +38,7 @@ module _ (c : tie.After-is-done) where
   abbrev out : List ℕ
   out = start .args .out .now
 
-  says : said (c .before .check-and-scan .result .answer) ≡ lowest (inverseTable edition1 n C out)
+  says : said (c .before .check-and-scan .result .answer) ≡ firstOf (inverseTable edition1 n C out)
   says = c .before .check-and-scan .ensures .answer (inverseLengths n out) (one-length _ _)
 
   module _ (yes-done : c .is-done .result ≡ true) where

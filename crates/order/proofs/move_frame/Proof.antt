@@ -9,7 +9,7 @@ use borrow.Author.Tests.{not-true, not-false}
 use lib.ListN.{length}
 use Rattle.kinds.specs.Edition.{edition1, SizedN, sizedN?}
 use Rattle.kinds.specs.Refusal.{said}
-use Rattle.kinds.specs.Lowest.{lowest}
+use Rattle.kinds.specs.First.{firstOf}
 use Rattle.kinds.specs.Reasons.{RightLengths}
 use Rattle.kinds.specs.declared.Answer.the-variants.{Done}
 use Rattle.kinds.proofs.TruthLaws.{denied}
@@ -46,7 +46,7 @@ module _ (c : tie.After-is-done) where
   abbrev out : List ℕ
   out = start .args .out .now
 
-  says : said (c .before .check .result) ≡ lowest (moverTable edition1 n C frame out)
+  says : said (c .before .check .result) ≡ firstOf (moverTable edition1 n C frame out)
   says = c .before .check .ensures (moverLengths n frame out) (c .before .before .are-frames .ensures)
 
   module _ (yes-done : c .is-done .result ≡ true) where

@@ -8,7 +8,7 @@ use borrow.Author.Needs.{needs}
 use borrow.Author.Tests.{not-true, not-false}
 use Rattle.kinds.specs.Edition.{edition1, sized?}
 use Rattle.kinds.specs.Refusal.{said}
-use Rattle.kinds.specs.Lowest.{lowest}
+use Rattle.kinds.specs.First.{firstOf}
 use Rattle.kinds.specs.declared.Answer.the-variants.{Done}
 use Rattle.kinds.proofs.TruthLaws.{denied}
 use Rattle.kinds.proofs.AnswerLaws.{one-length, refuses, does}
@@ -42,7 +42,7 @@ module _ (c : tie.After-is-done) where
   abbrev sheet : List ℕ
   sheet = start .args .sheet .now
 
-  says : said (c .before .check-with-k .result) ≡ lowest (planTable edition1 n k C sheet)
+  says : said (c .before .check-with-k .result) ≡ firstOf (planTable edition1 n k C sheet)
   says = c .before .check-with-k .ensures (sheetLengths edition1 sheet) (one-length _ _)
 
   module _ (yes-done : c .is-done .result ≡ true) where

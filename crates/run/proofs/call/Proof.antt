@@ -272,7 +272,7 @@ returns c W R write-shows read-shows =
     let serves = serves served W R write-shows read-shows in
     let it = now-at served in
     let (out-kept, words-kept, marks-kept) = serves .refused _ (ap said (c .before .answer .given .1)) in
-    comes-refused [] (n it) (k it) (cellOf (k it) W) (cellOf (k it) R) (st it) (ws it) (m it) (out it) (sym (serves .lowest-of) ∙ ap said (c .before .answer .given .1))
+    comes-refused [] (n it) (k it) (cellOf (k it) W) (cellOf (k it) R) (st it) (ws it) (m it) (out it) (sym (serves .first-of) ∙ ap said (c .before .answer .given .1))
     (same-memory words-kept marks-kept) out-kept
 
 enum-told : tie.Need-enum-told
@@ -299,7 +299,7 @@ returns-2 c W R write-shows read-shows =
     let it = now-at served in
     let done = ap said (c .before .enum-told .given .1) in
     let (buffer, memory) = serves .done done in
-    comes-done [] (n it) (k it) (cellOf (k it) W) (cellOf (k it) R) (st it) (ws it) (m it) (out it) (sym (serves .lowest-of) ∙ done)
+    comes-done [] (n it) (k it) (cellOf (k it) W) (cellOf (k it) R) (st it) (ws it) (m it) (out it) (sym (serves .first-of) ∙ done)
     (c .next .ensures ∙ ap (λ (T : ℕ). next T (st it) (ws it)) (frame-ticks it)) (ap (λ (T : ℕ). reading T (st it)) (frame-ticks it)) memory buffer
 
 pub call-spec : {M : Type 1} → statement M

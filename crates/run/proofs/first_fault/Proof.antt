@@ -4,12 +4,12 @@ use mathlib.Core.Path.{_≡_, refl, sym, _∙_}
 use mathlib.Core.List.{List, [], _∷_}
 use mathlib.Core.Option.{some}
 use borrow.Author.Needs.{needs}
-use Rattle.kinds.specs.Lowest.{Reason, lowest}
+use Rattle.kinds.specs.First.{Reason, firstOf}
 use Rattle.kinds.specs.declared.Port.{Port}
 use Rattle.kinds.specs.declared.Refusal.{Refusal}
 use Rattle.kinds.specs.declared.Refusal.the-variants.{WriteClash, ReadClash}
 use Rattle.kinds.proofs.TruthLaws.{says-no, says-yes, denied}
-use Rattle.kinds.proofs.LowestLaws.{lowest-nil, lowest-take, lowest-skip}
+use Rattle.kinds.proofs.FirstLaws.{first-nil, first-take, first-skip}
 use Rattle.run.specs.Faults.{clash, overwrite, emptyRead, faults}
 use Rattle.run.specs.Inside.{firstPair}
 use Rattle.run.specs.declared.Pair.the-variants.{Between}
@@ -18,11 +18,11 @@ use Rattle.run.proofs.first_fault.Statement.{statement}
 use Rattle.run.proofs.first_fault.Tie as tie
 
 clash-given : (F : Port → Port → Refusal) (k : ℕ) (cs : List ℕ) (rest : List Reason) {p q : Port} → firstPair k cs ≡ Between p q
-    → lowest (clash F k cs ∷ rest) ≡ some (F p q)
+    → firstOf (clash F k cs ∷ rest) ≡ some (F p q)
 clash-given F k cs rest {p} {q} e =
     let pair = pair-between k cs p q .0 e in
     let (first, second) = first-pair-named pair in
-    lowest-take _ rest (pair-clash pair) ∙ rw (second, first)
+    first-take _ rest (pair-clash pair) ∙ rw (second, first)
 
 module _ (c : tie.Start) where
   abbrev k : ℕ
@@ -47,7 +47,7 @@ module _ (c : tie.Start) where
   from12 = overwrite marks writes ∷ from13
 
   abbrev Left : List Reason → Type 0
-  Left t = lowest (faults k writes reads marks) ≡ lowest t
+  Left t = firstOf (faults k writes reads marks) ≡ firstOf t
 
 first-pair-requires : tie.Need-first-pair-requires
 first-pair-requires c κs = search needs
@@ -70,7 +70,7 @@ module _ (c : tie.After-enum-told) where
   start = c .before .before .before .before .before .before
 
   past-11 : Left start (from12 start)
-  past-11 = lowest-skip _ _ (pair-nowhere (k start) (writes start) .0 (sym (c .before .before .first-pair .ensures) ∙ c .enum-told .given .1))
+  past-11 = first-skip _ _ (pair-nowhere (k start) (writes start) .0 (sym (c .before .before .first-pair .ensures) ∙ c .enum-told .given .1))
 
 some-cell-requires : tie.Need-some-cell-requires
 some-cell-requires c κs = search needs
@@ -78,7 +78,7 @@ some-cell-requires c κs = search needs
 returns-2 : tie.Need-returns-2
 returns-2 c =
     let (p, h, filled) = c .before .some-cell .ensures .0 (c .if1 .taken) in
-    sym (past-11 (c .before .before) ∙ lowest-take _ _ (p, h, filled .0 refl))
+    sym (past-11 (c .before .before) ∙ first-take _ _ (p, h, filled .0 refl))
 
 -- nor does 12
 module _ (c : tie.Else1) where
@@ -88,7 +88,7 @@ module _ (c : tie.Else1) where
   past-12 : Left start1 (from13 start1)
   past-12 =
       past-11 (c .before .before)
-      ∙ lowest-skip _ _ (λ (p, h, filled). denied (c .before .some-cell .ensures) (c .if1 .left) (p, h, says-yes filled))
+      ∙ first-skip _ _ (λ (p, h, filled). denied (c .before .some-cell .ensures) (c .if1 .left) (p, h, says-yes filled))
 
 first-pair-requires-2 : tie.Need-first-pair-requires-2
 first-pair-requires-2 c κs = search needs
@@ -113,7 +113,7 @@ module _ (c : tie.After-enum-told2) where
   past-13 : Left start2 (from14 start2)
   past-13 =
       past-12 (c .before .before .before)
-      ∙ lowest-skip _ _ (pair-nowhere (k start2) (reads start2) .0 (sym (c .before .before .first-pair2 .ensures) ∙ c .enum-told2 .given .1))
+      ∙ first-skip _ _ (pair-nowhere (k start2) (reads start2) .0 (sym (c .before .before .first-pair2 .ensures) ∙ c .enum-told2 .given .1))
 
 some-cell-requires-2 : tie.Need-some-cell-requires-2
 some-cell-requires-2 c κs = search needs
@@ -121,14 +121,14 @@ some-cell-requires-2 c κs = search needs
 returns-4 : tie.Need-returns-4
 returns-4 c =
     let (p, h, empty) = c .before .some-cell2 .ensures .0 (c .if2 .taken) in
-    sym (past-13 (c .before .before) ∙ lowest-take _ _ (p, h, denied empty refl))
+    sym (past-13 (c .before .before) ∙ first-take _ _ (p, h, denied empty refl))
 
 returns-5 : tie.Need-returns-5
 returns-5 c =
     sym (
     past-13 (c .before .before)
-    ∙ lowest-skip _ _ (λ (p, h, empty). denied (c .before .some-cell2 .ensures) (c .if2 .left) (p, h, says-no empty))
-    ∙ lowest-nil)
+    ∙ first-skip _ _ (λ (p, h, empty). denied (c .before .some-cell2 .ensures) (c .if2 .left) (p, h, says-no empty))
+    ∙ first-nil)
 
 pub first-fault-spec : {M : Type 1} → statement M
 first-fault-spec =

@@ -9,7 +9,7 @@ use mir.Facts.{fits-widen}
 use lib.ListN.{length, getD, take, drop, set, replicate, length-append, length-set}
 use lib.Seq.{getD-set-same, getD-set-other}
 use Rattle.kinds.specs.declared.Answer.{Answer}
-use Rattle.kinds.proofs.LowestLaws.{lowest-none}
+use Rattle.kinds.proofs.FirstLaws.{first-none}
 use Rattle.kinds.proofs.FrameLaws.{in-order-at, in-order-is}
 use Rattle.maps.specs.Cells.{cellAt}
 use Rattle.maps.specs.Opened.{ListsCells}
@@ -43,7 +43,7 @@ module _ {base : ℕ} {places₀ listed places : List ℕ} {p : ℕ} (i : Placin
       → ListsPlaces o c base places₀ places
   done c r whole lists is end n k S shows e =
       let answer = lists n k S shows in
-      let tick = answer .done (answer .lowest-of ∙ lowest-none _ .1 (λ wrong. wrong (whole ∙ e, tt), tt)) in
+      let tick = answer .done (answer .first-of ∙ first-none _ .1 (λ wrong. wrong (whole ∙ e, tt), tt)) in
       in-order-is (2 ^ k) (λ q. base + cellAt k S c q) 0 places (i .same ∙ e)
       (λ q h. i .each q (omega (arith, e)) ∙ rw (is, tick, in-order-at (2 ^ k) (cellAt k S c) 0 q h))
 

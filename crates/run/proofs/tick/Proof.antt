@@ -9,11 +9,11 @@ use native.Mathlib.Omega.{arith}
 use lib.ListN.{length}
 use Rattle.kinds.specs.Edition.{edition1, Sized}
 use Rattle.kinds.specs.Frame.{ticks}
-use Rattle.kinds.specs.Lowest.{Reason, lowest}
+use Rattle.kinds.specs.First.{Reason, firstOf}
 use Rattle.kinds.specs.Reasons.{RightLengths}
 use Rattle.kinds.specs.Refusal.{said}
 use Rattle.kinds.proofs.TruthLaws.{denied}
-use Rattle.kinds.proofs.LowestLaws.{lowest-nil, lowest-take, lowest-skip, lowest-append, lowest-before, lowest-none}
+use Rattle.kinds.proofs.FirstLaws.{first-nil, first-take, first-skip, first-append, first-before, first-none}
 use Rattle.sheet.specs.Sheet.{writeSide, readSide}
 use Rattle.sheet.specs.Layout.{WellFormed}
 use Rattle.sheet.specs.Table.{sheetLengths, sheetTable}
@@ -67,7 +67,7 @@ module _ (c : tie.After-open) where
   abbrev rest : List Reason
   rest = impossible (ticks n k) st ∷ faults k (writesOf n k (M edition1 n k s) st ws) (readsOf n k (N edition1 n k s) st) (m .marks)
 
-  says : said (c .«open» .result .answer) ≡ lowest checks
+  says : said (c .«open» .result .answer) ≡ firstOf checks
   says = c .«open» .ensures .answer lengths (c .before .lengths-fit .ensures)
 
 -- past the check
@@ -75,11 +75,11 @@ module _ (c : tie.After-enum-told) where
   abbrev at : tie.After-open
   at = c .before .before
 
-  none-given : lowest (checks at) ≡ none
+  none-given : firstOf (checks at) ≡ none
   none-given = sym (says at) ∙ ap said (c .enum-told .given .1)
 
-  left : (t : List Reason) → lowest (checks at ++ t) ≡ lowest t
-  left t = lowest-append (checks at) t (lowest-none (checks at) .0 none-given)
+  left : (t : List Reason) → firstOf (checks at ++ t) ≡ firstOf t
+  left t = first-append (checks at) t (first-none (checks at) .0 none-given)
 
   sound : Sized edition1 (n at) (k at) × RightLengths (sheetLengths edition1 (s at) ++ lengths at) × WellFormed edition1 (n at) (k at) (s at)
   sound = sheet-sound edition1 (n at) (k at) (s at) (lengths at) .0 none-given
@@ -97,7 +97,7 @@ returns : tie.Need-returns
 returns c =
     let at = c .before .before .before in
     comes-refused (before at) (n at) (k at) (M edition1 (n at) (k at) (s at)) (N edition1 (n at) (k at) (s at)) (st at) (ws at) (m at) (out at)
-    (lowest-before (checks at) (rest at) (sym (says at) ∙ ap said (c .before .checked .given .1))) refl refl
+    (first-before (checks at) (rest at) (sym (says at) ∙ ap said (c .before .checked .given .1))) refl refl
 
 enum-told : tie.Need-enum-told
 enum-told c = search needs
@@ -125,7 +125,7 @@ returns-2 c =
     let at = at (told tested) in
     let not-possible = denied (c .before .possible .ensures) (not-true _ (c .if1 .taken)) in
     comes-refused (before at) (n at) (k at) (M edition1 (n at) (k at) (s at)) (N edition1 (n at) (k at) (s at)) (st at) (ws at) (m at) (out at)
-    (left (told tested) (rest at) ∙ lowest-take _ _ (λ possible. not-possible (rw (frame-ticks tested) possible))) refl refl
+    (left (told tested) (rest at) ∙ first-take _ _ (λ possible. not-possible (rw (frame-ticks tested) possible))) refl refl
 
 module _ (c : tie.Else1) where
   abbrev passed : tie.After-enum-told
@@ -164,7 +164,7 @@ returns-3 c =
     let shown = at .«open» .ensures in
     let done = passed .enum-told .given .1 in
     comes-past (before at) (n at) (k at) (M edition1 (n at) (k at) (s at)) (N edition1 (n at) (k at) (s at)) (st at) (ws at) (m at) (out at)
-    (left passed (impossible (ticks (n at) (k at)) (st at) ∷ []) ∙ lowest-skip _ _ (λ not. not (possible tested)) ∙ lowest-nil)
+    (left passed (impossible (ticks (n at) (k at)) (st at) ∷ []) ∙ first-skip _ _ (λ not. not (possible tested)) ∙ first-nil)
     (called .call .ensures (writeSide edition1 (n at) (k at) (s at)) (readSide edition1 (n at) (k at) (s at)) (shown .write done) (shown .read done))
 
 pub tick-spec : {M : Type 1} → statement M

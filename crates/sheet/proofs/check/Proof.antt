@@ -14,7 +14,7 @@ use Rattle.kinds.specs.declared.Answer.{Answer}
 use Rattle.kinds.specs.declared.Answer.the-variants.{Done, Refused}
 use Rattle.kinds.specs.declared.Refusal.the-variants.{Sizes, Length, Layout}
 use Rattle.kinds.proofs.TruthLaws.{denied}
-use Rattle.kinds.proofs.LowestLaws.{lowest-take, lowest-skip}
+use Rattle.kinds.proofs.FirstLaws.{first-take, first-skip}
 use Rattle.sheet.specs.Sheet.{readPlaces}
 use Rattle.sheet.specs.Layout.{FormedSide, WellFormed}
 use Rattle.sheet.specs.Table.{sheetLengths, sheetTable}
@@ -37,16 +37,16 @@ module _ (c : tie.Start) where
   Answered = Checks (sheetTable edition1 n k s) (c .args .fits)
 
   outside-sizes : ¬ Sized edition1 n k → Answered (Refused Sizes)
-  outside-sizes out others f = sym (lowest-take _ _ out)
+  outside-sizes out others f = sym (first-take _ _ out)
 
   module _ (sized : Sized edition1 n k) where
     wrong-length : ((others : List (ℕ × ℕ)) → Says (c .args .fits) (RightLengths others) → ¬ RightLengths (sheetLengths edition1 s ++ others))
         → Answered (Refused Length)
-    wrong-length wrong others f = sym (lowest-skip _ _ (λ out. out sized) ∙ lowest-take _ _ (wrong others f))
+    wrong-length wrong others f = sym (first-skip _ _ (λ out. out sized) ∙ first-take _ _ (wrong others f))
 
     module _ (fit : c .args .fits ≡ true) (places : length s ≡ sheetPlaces edition1) where
       broken : ¬ WellFormed edition1 n k s → Answered (Refused Layout)
-      broken b others f = sym (lowest-skip _ _ (λ out. out sized) ∙ lowest-skip _ _ (λ wrong. wrong (places, f .0 fit)) ∙ lowest-take _ _ b)
+      broken b others f = sym (first-skip _ _ (λ out. out sized) ∙ first-skip _ _ (λ wrong. wrong (places, f .0 fit)) ∙ first-take _ _ b)
 
       right : WellFormed edition1 n k s → Answered Done
       right formed others f = sym (sheet-sound edition1 n k s others .1 (sized, (places, f .0 fit), formed))

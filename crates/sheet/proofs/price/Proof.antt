@@ -14,7 +14,7 @@ use lib.Pow.{pow-mono}
 use lib.Seq.{getD-take, getD-drop, length-take-le}
 use Rattle.kinds.specs.Edition.{edition1, Sized}
 use Rattle.kinds.specs.Frame.{tickBits}
-use Rattle.kinds.specs.Lowest.{lowest}
+use Rattle.kinds.specs.First.{firstOf}
 use Rattle.kinds.specs.Reasons.{RightLengths}
 use Rattle.kinds.specs.Refusal.{said}
 use Rattle.kinds.proofs.TruthLaws.{says-yes}
@@ -65,7 +65,7 @@ module _ {x y : ℕ} (f : Fits w16 x) (g : Fits w16 y) where
 
 -- the check's answer, whatever it is
 module _ (c : tie.After-check) where
-  said-lowest : lowest (sheetTable edition1 (c .before .before .args .n) (c .before .before .args .k) (c .before .before .args .sheet .now) []) ≡ said (c .check .result)
+  said-lowest : firstOf (sheetTable edition1 (c .before .before .args .n) (c .before .before .args .k) (c .before .before .args .sheet .now) []) ≡ said (c .check .result)
   said-lowest = sym (c .check .ensures [] (says-yes tt))
 
 -- past the check
@@ -82,7 +82,7 @@ module _ (c : tie.After-enum-told) where
   abbrev s : List ℕ
   s = start .args .sheet .now
 
-  nothing : lowest (sheetTable edition1 n k s []) ≡ none
+  nothing : firstOf (sheetTable edition1 n k s []) ≡ none
   nothing = said-lowest (c .before .before) ∙ ap said (c .enum-told .given .1)
 
   sound : Sized edition1 n k × RightLengths (sheetLengths edition1 s) × WellFormed edition1 n k s

@@ -10,7 +10,7 @@ use lib.ListN.{length}
 use lib.Pow.{pow-mono}
 use Rattle.kinds.specs.Edition.{edition1, Sized, sized?}
 use Rattle.kinds.specs.Frame.{inOrder}
-use Rattle.kinds.specs.Lowest.{lowest}
+use Rattle.kinds.specs.First.{firstOf}
 use Rattle.kinds.specs.Reasons.{RightLengths}
 use Rattle.kinds.specs.Refusal.{said}
 use Rattle.kinds.specs.declared.Answer.the-variants.{Done}
@@ -58,7 +58,7 @@ module _ (c : tie.After-is-done) where
   abbrev lengths : List (ℕ × ℕ)
   lengths = sheetLengths edition1 sheet ++ (length frame, 2 ^ n) ∷ []
 
-  says : said (c .before .check-with-k .result) ≡ lowest (trialTable edition1 n k C sheet frame)
+  says : said (c .before .check-with-k .result) ≡ firstOf (trialTable edition1 n k C sheet frame)
   says = c .before .check-with-k .ensures lengths (c .before .before .lent-right .ensures)
 
 returns : tie.Need-returns

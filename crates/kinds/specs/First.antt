@@ -1,9 +1,9 @@
--- "Of a tool's numbers the lowest that applies is given" (01), said once for every tool.
--- A tool's table is a list of reasons to refuse, and of those that apply the first of the list is given.
+-- Which refusal a tool gives, said once for every tool. A tool's table is a list of reasons to refuse, and of those that apply the first of the list is given.
+-- "Of a tool's numbers the lowest that applies is given" (01): so it is where the numbers of the table go up.
 --   Reason                   a refusal, the statement that makes it apply, in 01's words, and a decision of that statement
 --   unless r d               the reason that refuses with r unless the statement that d decides holds
 --   orElse d r o             the refusal r if d says that it applies, else o
---   lowest t                 the refusal of the first reason of t that applies; none where none does
+--   firstOf t                the refusal of the first reason of t that applies; none where none does
 --   EachReason Q t           every reason of t has Q
 --   AnyReason Q t            some reason of t has Q
 --   FirstThatApplies t x     x is the refusal of a reason of t that applies, and none before that one does
@@ -30,9 +30,9 @@ abbrev pub orElse : {A : Type 0} → Dec A → Refusal → Option Refusal → Op
 orElse (yes a) r o = some r
 orElse (no n) r o = o
 
-unfoldable pub lowest : List Reason → Option Refusal
-lowest [] = none
-lowest (r ∷ rs) = orElse (r .decided) (r .refusal) (lowest rs)
+unfoldable pub firstOf : List Reason → Option Refusal
+firstOf [] = none
+firstOf (r ∷ rs) = orElse (r .decided) (r .refusal) (firstOf rs)
 
 abbrev pub EachReason : (Reason → Type 0) → List Reason → Type 0
 EachReason Q [] = Unit

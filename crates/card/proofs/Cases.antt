@@ -20,8 +20,8 @@ use Rattle.span.specs.Rows.{dots, rows}
 use Rattle.text.specs.Decimal.{codes, decimalIn}
 use Rattle.text.specs.Numbers.{row}
 use Rattle.text.proofs.RowLaws.{row?}
-use Rattle.maps.specs.Cells.{afterStages}
-use Rattle.maps.specs.Stages.{keptStages}
+use Rattle.switches.specs.Stages.{afterStages}
+use Rattle.switches.specs.Written.{keptStages}
 use Rattle.plan.specs.Planned.{othersOfP1, portsToZero, keptOfP3, pairs, readStages}
 use Rattle.card.specs.Card.{card?}
 use Rattle.card.specs.Listing.{spaced}

@@ -18,7 +18,7 @@ use Rattle.span.specs.Sums.{independent?}
 use Rattle.sheet.specs.Sheet.{stagesIn}
 use Rattle.sheet.specs.Layout.{fromTo?, stageInRange?, eachStage?, inRange?, allZero?, formedSide?, wellFormed?}
 use Rattle.sheet.proofs.Cases.{reversal}
-use Rattle.maps.specs.Cells.{afterStages}
+use Rattle.switches.specs.Stages.{afterStages}
 use Rattle.promise.proofs.Cases.{gray, identity, turning, one-tick}
 use Rattle.inspect.specs.Tool.{inspectTable}
 

@@ -15,10 +15,10 @@ use Rattle.span.specs.Sums.{Independent}
 use Rattle.span.proofs.SumLaws.{independent-bijection, bijection-independent}
 use Rattle.order.specs.Order.{place}
 use Rattle.sheet.specs.Sheet.{Side}
-use Rattle.maps.specs.Cells.{cellOf, cellColumns}
+use Rattle.switches.specs.Cells.{cellOf, cellColumns}
 use Rattle.maps.specs.Opened.{Shows}
 use Rattle.maps.specs.declared.OpenSide.{OpenSide}
-use Rattle.maps.proofs.CellLaws.{cell-into, cell-linear, cell-bijection}
+use Rattle.switches.proofs.CellLaws.{cell-into, cell-linear, cell-bijection}
 use Rattle.promise.specs.Passes.{Invertible, ShareCell, Differ}
 use Rattle.promise.proofs.PassLaws.{shares-invertible}
 use Rattle.inspect.specs.Inside.{AgreeAt, Agree}

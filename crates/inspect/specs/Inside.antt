@@ -16,7 +16,7 @@ use Rattle.kinds.specs.First.{firstOf}
 use Rattle.kinds.specs.Refusal.{said}
 use Rattle.kinds.specs.declared.Answer.{Answer}
 use Rattle.sheet.specs.Sheet.{Side, writeSide, readSide}
-use Rattle.maps.specs.Cells.{cellOf}
+use Rattle.switches.specs.Cells.{cellOf}
 use Rattle.maps.specs.Opened.{openWidth, Shows}
 use Rattle.maps.specs.declared.OpenSide.{OpenSide}
 use Rattle.promise.specs.Passes.{passTable}

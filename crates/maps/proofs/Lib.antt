@@ -1,5 +1,2 @@
 -- Laws of the two maps.
-pub mod CellLaws
 pub mod OpenLaws
-pub mod StageLaws
-pub mod Cases

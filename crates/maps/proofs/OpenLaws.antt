@@ -1,6 +1,4 @@
 -- An opened side does what the side does that it shows: the zeros after what is used change nothing.
---   after-none, after-more    the bank before any stage, and after one stage more
---   after-lt          stages with numbers of w bits leave a bank of w bits one of w bits
 --   shown-k           an opened side knows k
 --   shown-addresses, shown-wiring    its columns are those of the side
 --   shown-stages      its stages leave the same bank
@@ -9,60 +7,31 @@
 --   closed-shows      what stands for a side of a refused sheet shows one too, so every opened side that can be had shows one
 --   opens-unique      opening a sheet has one answer
 --   lists-unique      the cells of a tick have one answer, and leave one content
-use Prim.Native.Nat.{ℕ, zero, suc, _+_, _-_, _*_, _/_, _%_, _^_, _≤_, _<_}
+use Prim.Native.Nat.{ℕ, _+_, _-_, _*_, _/_, _%_, _^_, _<_}
 use mathlib.Core.Path.{_≡_, refl, sym, ap, ap₂, _∙_}
 use mathlib.Core.Bool.{Bool}
-use mathlib.Core.List.{List, [], _∷_}
+use mathlib.Core.List.{List, []}
 use native.Mathlib.Nat.{mod-eq-of-lt}
-use native.Mathlib.Numerals.{add-one}
 use native.Mathlib.Omega.{arith}
-use lib.Bits.{bitXor, xor-zero-r, xor-lt}
-use lib.ListN.{length, getD, List·getD-eq-default}
+use lib.ListN.{length, getD}
 use lib.Pow.{pow-mono}
 use Rattle.kinds.specs.Edition.{Edition}
 use Rattle.kinds.specs.declared.Answer.{Answer}
 use Rattle.kinds.specs.declared.Answer.the-variants.{Done, Refused}
 use Rattle.kinds.proofs.AnswerLaws.{said-same, checks-unique, answers-same, answers-agree}
-use Rattle.bits.specs.Image.{chosen, image}
-use Rattle.bits.specs.Parity.{dot}
-use Rattle.bits.proofs.ImageLaws.{chosen-zero, same-image, chosen-lt}
-use Rattle.sheet.specs.Sheet.{Stage, Side, stageAt, stagesIn, stagesFrom, flat}
+use Rattle.bits.specs.Image.{image}
+use Rattle.bits.proofs.ImageLaws.{same-image}
+use Rattle.sheet.specs.Sheet.{Stage, Side, stagesIn, stagesFrom, flat}
 use Rattle.sheet.specs.Table.{sheetTable}
 use Rattle.sheet.proofs.StageLaws.{same-stages}
 use Rattle.sheet.proofs.LayLaws.{padded-length, padded-at, flat-length, flat-stages}
-use Rattle.maps.specs.Cells.{switched, afterStages, cellAt}
+use Rattle.switches.specs.Stages.{afterStages}
+use Rattle.switches.specs.Cells.{cellAt}
 use Rattle.maps.specs.Opened.{openWidth, openStages, padded, closed, Shows, Opens, IsAddress, IsBank, IsCell, ListsCells}
 use Rattle.maps.specs.declared.OpenSide.{OpenSide}
 use Rattle.maps.specs.declared.Opened.{Opened}
-use Rattle.maps.proofs.CellLaws.{after-append, cell-lt}
-
-pub after-none : (l : List ℕ) (c b : ℕ) → afterStages (stagesIn 0 l) c b ≡ b
-unfolding afterStages stagesIn
-after-none l c b = refl
-
-pub after-more : (m : ℕ) (l : List ℕ) (c b : ℕ) → afterStages (stagesIn (m + 1) l) c b ≡ switched (stageAt l m) c (afterStages (stagesIn m l) c b)
-unfolding afterStages stagesIn
-after-more m l c b = rw (add-one m) (after-append (stagesIn m l) (stageAt l m ∷ []) c b)
-
-pub after-lt : (w : ℕ) (l : List ℕ) → ((j : ℕ) → getD l j 0 < 2 ^ w) → (m c b : ℕ) → b < 2 ^ w → afterStages (stagesIn m l) c b < 2 ^ w
-after-lt w l narrow zero c b h = rw (after-none l c b) h
-after-lt w l narrow (suc m) c b h =
-    rw (← add-one m, after-more m l c b)
-    (xor-lt w (afterStages (stagesIn m l) c b) _ (after-lt w l narrow m c b h) (chosen-lt (dot (stageAt l m .control) c) (stageAt l m .direction) w (narrow (2 * m))))
-
-idle : (m : ℕ) (l : List ℕ) (c b : ℕ) → getD l (2 * m) 0 ≡ 0 → switched (stageAt l m) c b ≡ b
-idle m l c b none =
-    ap (λ (d : ℕ). bitXor b (chosen (dot (stageAt l m .control) c) d)) none
-    ∙ ap (bitXor b) (chosen-zero (dot (stageAt l m .control) c))
-    ∙ xor-zero-r b
-
-idle-stages : (m more : ℕ) (l : List ℕ) → length l ≤ 2 * m → (c b : ℕ) → afterStages (stagesIn (m + more) l) c b ≡ afterStages (stagesIn m l) c b
-idle-stages m zero l end c b = ap (λ (s : ℕ). afterStages (stagesIn s l) c b) (omega arith)
-idle-stages m (suc more) l end c b =
-    ap (λ (s : ℕ). afterStages (stagesIn s l) c b) {x = m + suc more} {y = (m + more) + 1} (omega arith)
-    ∙ after-more (m + more) l c b
-    ∙ idle (m + more) l c (afterStages (stagesIn (m + more) l) c b) (List·getD-eq-default l 0 (omega arith))
-    ∙ idle-stages m more l end c b
+use Rattle.switches.proofs.StageLaws.{idle-stages}
+use Rattle.switches.proofs.CellLaws.{cell-lt}
 
 -- what an opened side shows
 

@@ -10,7 +10,7 @@ use lib.ListN.{length, getD}
 use Rattle.kinds.specs.Edition.{edition1, Sized}
 use Rattle.sheet.specs.Sheet.{Side, sideOf}
 use Rattle.sheet.specs.Layout.{FormedSide}
-use Rattle.maps.specs.Cells.{cellOf}
+use Rattle.switches.specs.Cells.{cellOf}
 use Rattle.maps.specs.Opened.{openWidth, Shows}
 use Rattle.maps.specs.declared.OpenSide.{OpenSide}
 

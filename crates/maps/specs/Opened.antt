@@ -27,7 +27,7 @@ use Rattle.kinds.specs.declared.Refusal.{Refusal}
 use Rattle.sheet.specs.Sheet.{Side, writeSide, readSide, paddedTo, flat}
 use Rattle.sheet.specs.Layout.{InRange}
 use Rattle.sheet.specs.Table.{sheetTable}
-use Rattle.maps.specs.Cells.{addressAt, bankAt, cellAt, cellColumns}
+use Rattle.switches.specs.Cells.{addressAt, bankAt, cellAt, cellColumns}
 use Rattle.maps.specs.declared.OpenSide.{OpenSide}
 use Rattle.maps.specs.declared.Opened.{Opened}
 

@@ -3,9 +3,6 @@ ghost use mathlib.Core.Path.{_≡_};
 ghost use Prim.Native.Nat.{_+_, _*_, _%_, _^_, _≤_};
 ghost use lib.ListN.{length, getD};
 ghost use Rattle.kinds.specs.Edition.{edition1, sidePlaces};
-ghost use Rattle.kinds.specs.Frame.{wordAt};
-ghost use Rattle.sheet.specs.Sheet.{stagesFrom};
-ghost use Rattle.maps.specs.Cells.{afterStages};
 ghost use Rattle.maps.specs.Opened.{openWidth, padded as paddedOf, Opens, IsAddress, IsBank, IsCell, IsWiring, AreColumns, ListsCells};
 ghost use Rattle.maps.specs.Inside.{OpensSide, IsColumn, Doubled};
 use kinds::Addr;
@@ -104,7 +101,7 @@ impl OpenSide {
     pub fn address(self, tick: Tick, port: Port) -> Addr
         ensures { λ r. ⌜ IsAddress self (tick .0) (port .0) (r .0) ⌝ }
     {
-        let word = word_number(tick, port, self.k);
+        let word = switches::word_number(tick, port, self.k);
         let address = bits::image(&self.addresses, word as u32) as u32;
         Addr(address)
     }
@@ -114,7 +111,7 @@ impl OpenSide {
         ensures { λ r. ⌜ IsBank self (tick .0) (port .0) (r .0) ⌝ }
     {
         let wired = bits::image(&self.wiring, port.0) as u32;
-        after_stages(&self.stages, tick, Bank(wired))
+        switches::after_stages(&self.stages, tick, Bank(wired))
     }
 
     pub fn cell(self, tick: Tick, port: Port) -> u16
@@ -122,7 +119,7 @@ impl OpenSide {
     {
         let address = self.address(tick, port);
         let bank = self.bank(tick, port);
-        cell_number(address, bank, self.k)
+        switches::cell_number(address, bank, self.k)
     }
 
     // The wiring columns, and zeros after them.
@@ -156,11 +153,11 @@ impl OpenSide {
         let address = self.addresses[at] as u32;
         if bit < k {
             let wired = self.wiring[at] as u32;
-            return cell_number(Addr(address), Bank(wired), k);
+            return switches::cell_number(Addr(address), Bank(wired), k);
         }
         let tick = bits::two_to(bit - k);
-        let bank = after_stages(&self.stages, Tick(tick), Bank(0));
-        cell_number(Addr(address), bank, k)
+        let bank = switches::after_stages(&self.stages, Tick(tick), Bank(0));
+        switches::cell_number(Addr(address), bank, k)
     }
 
     // The cells of a tick, by port; the wiring sends port 0 to bank 0. 2 unless there is a place for each port.
@@ -171,8 +168,8 @@ impl OpenSide {
             return Answer::Refused(Refusal::Length);
         }
         let address = self.address(tick, Port(0));
-        let bank = after_stages(&self.stages, tick, Bank(0));
-        out[0] = cell_number(address, bank, self.k);
+        let bank = switches::after_stages(&self.stages, tick, Bank(0));
+        out[0] = switches::cell_number(address, bank, self.k);
         let mut filled = 1;
         let mut j = 0;
         while filled < out.len() {
@@ -183,37 +180,6 @@ impl OpenSide {
         }
         Answer::Done
     }
-}
-
-// Each stage xors its direction into the bank if its control AND the tick has an odd number of ones. Lent are the numbers of the stages, as they stand on a sheet.
-pub fn after_stages(stages: &[u16], tick: Tick, bank: Bank) -> Bank
-    ensures { λ r. ⌜ r .0 ≡ afterStages (stagesFrom (now (stages .entry))) (tick .0) (bank .0) ⌝ }
-{
-    let mut b = bank.0;
-    let mut s = 0;
-    while s < stages.len() / 2 {
-        let direction = stages[2 * s] as u32;
-        let control = stages[2 * s + 1] as u32;
-        if bits::parity(control & tick.0) == 1 {
-            b = b ^ direction;
-        }
-        s += 1;
-    }
-    Bank(b)
-}
-
-// "Word number i enters at tick c = i / 2^k (whole part), port p = i mod 2^k" (01): of i the lower 16 bits, which columns look at.
-fn word_number(tick: Tick, port: Port, k: u32) -> u16
-    ensures { λ r. ⌜ r ≡ wordAt k (tick .0) (port .0) % 2 ^ openWidth ⌝ }
-{
-    bits::joined(tick.0, port.0, k)
-}
-
-// "The cell number is address*2^k + bank" (01).
-fn cell_number(address: Addr, bank: Bank, k: u32) -> u16
-    ensures { λ r. ⌜ r ≡ (address .0 * 2 ^ k + bank .0) % 2 ^ openWidth ⌝ }
-{
-    bits::joined(address.0, bank.0, k)
 }
 
 // The cells of the first ports, once more with the next port bit.

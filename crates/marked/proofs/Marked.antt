@@ -17,8 +17,8 @@ use Rattle.span.specs.Scan.{keptAt, others, mask, masks}
 use Rattle.span.specs.Rows.{dots, rows}
 use Rattle.sheet.specs.Sheet.{stagesIn}
 use Rattle.sheet.specs.Layout.{fromTo?, stageInRange?, eachStage?, inRange?, allZero?, formedSide?, wellFormed?}
-use Rattle.maps.specs.Cells.{afterStages}
-use Rattle.maps.specs.Stages.{keptStages}
+use Rattle.switches.specs.Stages.{afterStages}
+use Rattle.switches.specs.Written.{keptStages}
 use Rattle.run.specs.Memory.{put}
 use Rattle.promise.specs.Series.{standing}
 use Rattle.plan.specs.Planned.{othersOfP1, portsToZero, keptOfP3, pairs, readStages}

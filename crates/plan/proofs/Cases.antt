@@ -13,8 +13,8 @@ use Rattle.span.specs.Scan.{keptAt, others, mask, masks}
 use Rattle.span.specs.Rows.{dots, rows}
 use Rattle.order.specs.Parts.{rowsP3}
 use Rattle.sheet.proofs.Cases.{reversal}
-use Rattle.maps.specs.Cells.{afterStages}
-use Rattle.maps.specs.Stages.{keptStages}
+use Rattle.switches.specs.Stages.{afterStages}
+use Rattle.switches.specs.Written.{keptStages}
 use Rattle.promise.proofs.Cases.{gray, identity, turning, one-tick}
 use Rattle.plan.specs.Planned.{othersOfP1, portsToZero, keptOfP3, pairs, readStages, plannedSheet}
 

@@ -19,9 +19,10 @@ use Rattle.order.specs.Order.{place, Order}
 use Rattle.sheet.specs.Sheet.{Stage, flat}
 use Rattle.sheet.specs.Layout.{InRange}
 use Rattle.sheet.proofs.LayLaws.{padded-at, padded-length, flat-from}
-use Rattle.maps.specs.Cells.{afterStages, portToBank, tickToBank}
+use Rattle.switches.specs.Stages.{afterStages}
+use Rattle.switches.specs.Cells.{portToBank, tickToBank}
 use Rattle.maps.specs.Opened.{openWidth, padded}
-use Rattle.maps.proofs.CellLaws.{address-of-cell, bank-of-cell}
+use Rattle.switches.proofs.CellLaws.{address-of-cell, bank-of-cell}
 use Rattle.plan.specs.Planned.{readStages, plannedRead, plannedM}
 use Rattle.plan.specs.Inside.{bankThrough}
 

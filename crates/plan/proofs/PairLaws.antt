@@ -14,7 +14,7 @@ use Rattle.span.specs.Scan.{units}
 use Rattle.span.specs.Rows.{dots}
 use Rattle.sheet.specs.Sheet.{flat}
 use Rattle.sheet.specs.Layout.{StageInRange, EachStage}
-use Rattle.maps.specs.Stages.{directions, controls, selected}
+use Rattle.switches.specs.Stages.{directions, controls, selected}
 use Rattle.plan.specs.Planned.{pairs}
 
 double : (s : ℕ) → 2 * suc s ≡ suc (suc (2 * s))

@@ -30,10 +30,11 @@ use Rattle.order.proofs.OrderLaws.{order-bijection}
 use Rattle.sheet.specs.Sheet.{Side, writeSide, readSide}
 use Rattle.sheet.specs.Layout.{WellFormed, Layable}
 use Rattle.sheet.proofs.LayLaws.{sheet-length, sheet-write, sheet-read, sheet-formed}
-use Rattle.maps.specs.Cells.{bankAt, cellAt, cellOf, M, N}
-use Rattle.maps.specs.Stages.{selected}
-use Rattle.maps.proofs.CellLaws.{stages-sum, bank-lt, cell-word, cell-into, cell-linear}
-use Rattle.maps.proofs.StageLaws.{side-map, side-few, side-layable}
+use Rattle.switches.specs.Cells.{bankAt, cellAt, cellOf, M, N}
+use Rattle.switches.specs.Stages.{selected}
+use Rattle.switches.proofs.StageLaws.{stages-sum}
+use Rattle.switches.proofs.CellLaws.{bank-lt, cell-word, cell-into, cell-linear}
+use Rattle.switches.proofs.WrittenLaws.{side-map, side-few, side-layable}
 use Rattle.promise.specs.Passes.{Invertible, Passes}
 use Rattle.promise.proofs.PassLaws.{shares-invertible}
 use Rattle.promise.proofs.BoundLaws.{port-part}

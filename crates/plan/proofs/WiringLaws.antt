@@ -17,7 +17,7 @@ use Rattle.span.proofs.PositionLaws.{over-none, units-none, others-independent}
 use Rattle.order.specs.Order.{Order}
 use Rattle.order.specs.Parts.{P1, P3, rowsP1, rowsP3}
 use Rattle.order.proofs.RowLaws.{dots-P1, dots-P3, parts-vanish}
-use Rattle.maps.specs.Stages.{selected}
+use Rattle.switches.specs.Stages.{selected}
 use Rattle.plan.specs.Planned.{othersOfP1, portsToZero, keptOfP3, readStages}
 use Rattle.plan.proofs.ChoiceLaws.{zero-ports, as-many}
 use Rattle.plan.proofs.PairLaws.{pairs-selected}

@@ -30,7 +30,7 @@ use Rattle.bits.specs.Image.{columns}
 use Rattle.span.specs.Scan.{rank, units}
 use Rattle.order.specs.Order.{Order}
 use Rattle.sheet.specs.Sheet.{Stage, stagesFrom, flat, laidOut}
-use Rattle.maps.specs.Cells.{afterStages}
+use Rattle.switches.specs.Stages.{afterStages}
 use Rattle.maps.specs.Opened.{openWidth, openStages, padded}
 use Rattle.plan.specs.Planned.{readStages}
 use Rattle.plan.specs.declared.Stages.{Stages}

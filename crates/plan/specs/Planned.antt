@@ -21,8 +21,8 @@ use Rattle.span.specs.Rows.{takenOn}
 use Rattle.order.specs.Order.{place}
 use Rattle.order.specs.Parts.{P1, rowsP1, rowsP3}
 use Rattle.sheet.specs.Sheet.{Stage, Side, sheetOf}
-use Rattle.maps.specs.Cells.{cellOf}
-use Rattle.maps.specs.Stages.{sideFor}
+use Rattle.switches.specs.Cells.{cellOf}
+use Rattle.switches.specs.Written.{sideFor}
 
 unfoldable pub othersOfP1 : ℕ → List ℕ → List ℕ
 unfolding others

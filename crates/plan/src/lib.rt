@@ -10,7 +10,7 @@ ghost use Rattle.span.specs.Scan.{masks as masksOf};
 ghost use Rattle.span.specs.Rows.{row as rowIn, rows as rowsIn};
 ghost use Rattle.sheet.specs.Sheet.{laidOut, paddedTo};
 ghost use Rattle.maps.specs.Opened.{openWidth, padded};
-ghost use Rattle.maps.specs.Stages.{keptStages};
+ghost use Rattle.switches.specs.Written.{keptStages};
 ghost use Rattle.plan.specs.Planned.{pairs, readStages, plannedWrite, plannedSheet};
 ghost use Rattle.plan.specs.Tool.{Plans};
 ghost use Rattle.plan.specs.Inside.{Plannable, Ordered, staged, listed, keptIn, unitsOf, bankThrough, Narrow, MaskOf, Within, Pairable, Shiftable, FewKept, ReadRoom, LaysRead, WriteRoom, SideRoom, LaysOut};
@@ -230,7 +230,7 @@ fn banks_of(places: &[u16], k: u32, stages: &[u16]) -> [u16; WIDTH]
         let place = places[j] as u32;
         let tick = place / ports;
         let port = place % ports;
-        let bank = maps::after_stages(stages, Tick(tick), Bank(port));
+        let bank = switches::after_stages(stages, Tick(tick), Bank(port));
         banks[j] = bank.0 as u16;
         j += 1;
     }

@@ -20,10 +20,10 @@ use Rattle.order.specs.Parts.{P1, P3, rowsP1}
 use Rattle.order.proofs.PartLaws.{P1-into}
 use Rattle.sheet.specs.Sheet.{Side, writeSide, readSide}
 use Rattle.sheet.specs.Layout.{InRange, WellFormed}
-use Rattle.maps.specs.Cells.{cellOf}
-use Rattle.maps.specs.Stages.{selected}
-use Rattle.maps.proofs.StageLaws.{stages-rank}
-use Rattle.maps.proofs.CellLaws.{bank-parts, bank-of-cell, wiring-part}
+use Rattle.switches.specs.Cells.{cellOf}
+use Rattle.switches.specs.Stages.{selected}
+use Rattle.switches.proofs.StageLaws.{stages-rank}
+use Rattle.switches.proofs.CellLaws.{bank-parts, bank-of-cell, wiring-part}
 use Rattle.promise.specs.Passes.{Invertible, Passes}
 use Rattle.promise.proofs.PassLaws.{apart-wired, passes-fits}
 

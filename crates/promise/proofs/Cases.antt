@@ -17,7 +17,8 @@ use Rattle.span.specs.Maps.{bijection?}
 use Rattle.order.specs.Order.{place}
 use Rattle.sheet.specs.Sheet.{stagesIn}
 use Rattle.sheet.proofs.Cases.{reversal}
-use Rattle.maps.specs.Cells.{afterStages, M, N}
+use Rattle.switches.specs.Stages.{afterStages}
+use Rattle.switches.specs.Cells.{M, N}
 use Rattle.run.specs.Memory.{put}
 use Rattle.promise.specs.Series.{wordIn, dueCall, duePort, Stand, standing, outcomeOn}
 use Rattle.promise.specs.Passes.{passTable}

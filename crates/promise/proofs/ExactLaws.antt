@@ -16,8 +16,8 @@ use Rattle.order.specs.Parts.{rowsP1}
 use Rattle.order.proofs.OrderLaws.{order-bijection}
 use Rattle.sheet.specs.Sheet.{readSide}
 use Rattle.sheet.specs.Layout.{WellFormed}
-use Rattle.maps.specs.Cells.{M, N}
-use Rattle.maps.proofs.CellLaws.{cell-into}
+use Rattle.switches.specs.Cells.{M, N}
+use Rattle.switches.proofs.CellLaws.{cell-into}
 use Rattle.promise.specs.Series.{Series, TickDue, Stand, Fresh, outcomeOn, Right}
 use Rattle.promise.specs.Passes.{Passes}
 use Rattle.promise.proofs.FamilyLaws.{family-right, family-hands}

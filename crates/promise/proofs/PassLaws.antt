@@ -21,8 +21,8 @@ use Rattle.order.specs.Order.{place, Order}
 use Rattle.order.proofs.OrderLaws.{order-bijection}
 use Rattle.sheet.specs.Sheet.{Side, writeSide, readSide}
 use Rattle.sheet.specs.Layout.{InRange, WellFormed}
-use Rattle.maps.specs.Cells.{cellOf, M, N}
-use Rattle.maps.proofs.CellLaws.{same-bank, word-bank, wiring-part, cell-into}
+use Rattle.switches.specs.Cells.{cellOf, M, N}
+use Rattle.switches.proofs.CellLaws.{same-bank, word-bank, wiring-part, cell-into}
 use Rattle.promise.specs.Passes.{Invertible, ShareCell, Passes, BanksApart, Fits}
 
 module _ (n : ℕ) (f : ℕ → ℕ) where

@@ -18,7 +18,7 @@ use Rattle.kinds.proofs.FrameLaws.{word-lt, in-order-at, in-order-is}
 use Rattle.span.specs.Maps.{Bijection}
 use Rattle.order.specs.Order.{place, Order, Moved}
 use Rattle.order.proofs.OrderLaws.{order-bijection}
-use Rattle.maps.specs.Cells.{M, N}
+use Rattle.switches.specs.Cells.{M, N}
 use Rattle.run.specs.Call.{Outcome}
 use Rattle.run.proofs.CallLaws.{call-leaving}
 use Rattle.promise.specs.Series.{callAt, Series, wordsBefore, wordIn, frame, tickIn, CompletedIn, SamePattern, Stand, Fresh, standingOn, outcomeOn, Leaves, RightOver, Right}

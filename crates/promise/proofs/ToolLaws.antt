@@ -21,7 +21,7 @@ use Rattle.kinds.specs.declared.Refusal.{Refusal}
 use Rattle.kinds.proofs.FirstLaws.{first-none}
 use Rattle.order.specs.Order.{place}
 use Rattle.sheet.specs.Layout.{AllZero, WellFormed}
-use Rattle.maps.specs.Cells.{M, N}
+use Rattle.switches.specs.Cells.{M, N}
 use Rattle.run.specs.Memory.{Memory, filledMarks}
 use Rattle.run.specs.States.{Possible}
 use Rattle.run.specs.Call.{Outcome, call}

@@ -27,7 +27,7 @@ use Rattle.bits.specs.Image.{image}
 use Rattle.span.specs.Maps.{Injective, Bijection, bijection?}
 use Rattle.order.specs.Order.{place}
 use Rattle.sheet.specs.Sheet.{Side, writeSide, readSide}
-use Rattle.maps.specs.Cells.{M, N}
+use Rattle.switches.specs.Cells.{M, N}
 
 abbrev pub Invertible : ℕ → Side → Type 0
 Invertible k W = Bijection (image (W .wiring)) (2 ^ k)

@@ -52,7 +52,7 @@ use Rattle.kinds.specs.declared.Refusal.{Refusal}
 use Rattle.bits.specs.Image.{AllBelow}
 use Rattle.order.specs.Order.{place}
 use Rattle.sheet.specs.Layout.{AllZero}
-use Rattle.maps.specs.Cells.{M, N}
+use Rattle.switches.specs.Cells.{M, N}
 use Rattle.run.specs.Memory.{Memory}
 use Rattle.run.specs.Call.{Outcome, call}
 use Rattle.run.specs.Tool.{sheetCall}

@@ -22,8 +22,8 @@ use Rattle.kinds.specs.First.{Reason, firstOf}
 use Rattle.kinds.specs.declared.Refusal.{Refusal}
 use Rattle.kinds.proofs.FirstLaws.{first-none, first-append, first-both}
 use Rattle.bits.specs.Image.{AllBelow}
-use Rattle.maps.specs.Cells.{M, N}
-use Rattle.maps.proofs.CellLaws.{cell-into}
+use Rattle.switches.specs.Cells.{M, N}
+use Rattle.switches.proofs.CellLaws.{cell-into}
 use Rattle.run.specs.Memory.{Memory, filledMarks}
 use Rattle.run.specs.Faults.{faults}
 use Rattle.run.specs.States.{Possible}

@@ -19,7 +19,7 @@ use Rattle.bits.specs.Parity.{parity, dot}
 use Rattle.sheet.specs.Sheet.{stagesIn}
 use Rattle.sheet.specs.Layout.{fromTo?, stageInRange?, eachStage?, inRange?, allZero?, formedSide?, wellFormed?}
 use Rattle.sheet.proofs.Cases.{reversal}
-use Rattle.maps.specs.Cells.{afterStages}
+use Rattle.switches.specs.Stages.{afterStages}
 use Rattle.run.specs.Memory.{Memory, put}
 use Rattle.run.specs.States.{possible?}
 use Rattle.run.specs.Call.{Outcome}

@@ -26,8 +26,8 @@ use Rattle.kinds.specs.Frame.{ticks, wordAt, bankOf, inOrder}
 use Rattle.kinds.proofs.FrameLaws.{frame-whole, in-order-length, in-order-at, in-order-is}
 use Rattle.bits.specs.Image.{AllBelow}
 use Rattle.sheet.specs.Sheet.{Side}
-use Rattle.maps.specs.Cells.{cellAt, cellOf}
-use Rattle.maps.proofs.CellLaws.{cell-word}
+use Rattle.switches.specs.Cells.{cellAt, cellOf}
+use Rattle.switches.proofs.CellLaws.{cell-word}
 use Rattle.run.specs.Faults.{Clash}
 use Rattle.run.specs.States.{reading}
 use Rattle.run.specs.Call.{placeIn, placesOf, readsOf, writesOf}

@@ -18,7 +18,7 @@ use Rattle.kinds.proofs.TruthLaws.{stable}
 use Rattle.kinds.proofs.FirstLaws.{first-none}
 use Rattle.sheet.specs.Layout.{WellFormed, wellFormed?}
 use Rattle.sheet.specs.Table.{sheetLengths}
-use Rattle.maps.specs.Cells.{M, N}
+use Rattle.switches.specs.Cells.{M, N}
 use Rattle.run.specs.Memory.{Memory}
 use Rattle.run.specs.Faults.{Clash, SomeFilled, SomeEmpty, faults}
 use Rattle.run.specs.States.{Possible, possible?}

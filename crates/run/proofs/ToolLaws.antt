@@ -14,7 +14,7 @@ use Rattle.kinds.specs.Frame.{ticks}
 use Rattle.kinds.specs.First.{Reason, firstOf}
 use Rattle.kinds.specs.declared.Refusal.{Refusal}
 use Rattle.kinds.proofs.FirstLaws.{none-some}
-use Rattle.maps.specs.Cells.{M, N}
+use Rattle.switches.specs.Cells.{M, N}
 use Rattle.run.specs.Memory.{Memory, wordsAt, served, onto}
 use Rattle.run.specs.Faults.{faults}
 use Rattle.run.specs.States.{reading, next}

@@ -25,7 +25,7 @@ use Rattle.kinds.specs.Refusal.{said}
 use Rattle.kinds.specs.declared.Answer.{Answer}
 use Rattle.bits.specs.Image.{AllBelow}
 use Rattle.sheet.specs.Sheet.{Side}
-use Rattle.maps.specs.Cells.{cellAt, cellOf}
+use Rattle.switches.specs.Cells.{cellAt, cellOf}
 use Rattle.maps.specs.Opened.{Shows}
 use Rattle.maps.specs.declared.OpenSide.{OpenSide}
 use Rattle.run.specs.Memory.{Memory, Filled, wordsAt, served, onto}

@@ -19,7 +19,7 @@ use Rattle.kinds.specs.Frame.{ticks}
 use Rattle.kinds.specs.First.{Reason}
 use Rattle.kinds.specs.declared.Refusal.{Refusal}
 use Rattle.sheet.specs.Table.{sheetTable}
-use Rattle.maps.specs.Cells.{M, N}
+use Rattle.switches.specs.Cells.{M, N}
 use Rattle.run.specs.Memory.{Memory, onto}
 use Rattle.run.specs.States.{impossible}
 use Rattle.run.specs.Call.{Outcome, call}

@@ -10,7 +10,7 @@ use lib.Pow.{pow-pos}
 use lib.ListN.{getD}
 use Rattle.kinds.proofs.TruthLaws.{says-no, says-yes}
 use Rattle.sheet.specs.Sheet.{Side}
-use Rattle.maps.specs.Cells.{cellAt, cellOf}
+use Rattle.switches.specs.Cells.{cellAt, cellOf}
 use Rattle.maps.specs.Opened.{Shows}
 use Rattle.maps.specs.declared.OpenSide.{OpenSide}
 use Rattle.inspect.specs.Inside.{AgreeAt, Agree}

@@ -19,7 +19,7 @@ use Rattle.span.specs.Sums.{Independent}
 use Rattle.order.specs.Order.{place}
 use Rattle.sheet.specs.Sheet.{Side, writeSide, readSide}
 use Rattle.sheet.proofs.LayLaws.{padded-at, padded-part}
-use Rattle.maps.specs.Cells.{M, N, cellColumns}
+use Rattle.switches.specs.Cells.{M, N, cellColumns}
 use Rattle.maps.specs.Opened.{openWidth, padded, Shows}
 use Rattle.promise.specs.Passes.{Invertible, ShareCell, Differ, shareCell?, differ?, passTable}
 use Rattle.inspect.proofs.ColumnLaws.{wiring-tells, cells-tell, columns-tell}

@@ -10,7 +10,7 @@ use lib.Pow.{pow-pos}
 use lib.ListN.{length, length-map}
 use Rattle.sheet.proofs.FillLaws.{Filled, fill-none, fill-value, fill-all}
 use Rattle.maps.specs.Opened.{openWidth}
-use Rattle.maps.proofs.OpenLaws.{after-lt}
+use Rattle.switches.proofs.StageLaws.{after-lt}
 use Rattle.plan.specs.Inside.{bankThrough}
 use Rattle.plan.proofs.banks_of.Statement.{statement}
 use Rattle.plan.proofs.banks_of.Tie as tie

@@ -19,7 +19,7 @@ use Rattle.span.proofs.MaskLaws.{masks-length, masks-at}
 use Rattle.sheet.specs.Sheet.{Stage, flat}
 use Rattle.sheet.proofs.LayLaws.{stage-more}
 use Rattle.maps.specs.Opened.{openWidth, openStages, padded}
-use Rattle.maps.specs.Stages.{keptStage, keptStages}
+use Rattle.switches.specs.Written.{keptStage, keptStages}
 use Rattle.plan.specs.Inside.{FewKept, staged, keptIn}
 use Rattle.plan.proofs.kept_stages.Statement.{statement}
 use Rattle.plan.proofs.kept_stages.Tie as tie

@@ -12,10 +12,10 @@ use Rattle.bits.proofs.ImageLaws.{columns-length}
 use Rattle.sheet.specs.Sheet.{Side, stagesFrom, flat, laidOut}
 use Rattle.sheet.specs.Layout.{Layable, InRange}
 use Rattle.sheet.proofs.LayLaws.{padded-length, padded-part, flat-length, flat-from, same-side}
-use Rattle.maps.specs.Cells.{tickToBank}
+use Rattle.switches.specs.Cells.{tickToBank}
 use Rattle.maps.specs.Opened.{openWidth, padded}
-use Rattle.maps.specs.Stages.{keptStages}
-use Rattle.maps.proofs.StageLaws.{kept-count}
+use Rattle.switches.specs.Written.{keptStages}
+use Rattle.switches.proofs.WrittenLaws.{kept-count}
 use Rattle.plan.specs.Planned.{readStages, plannedRead, plannedM, plannedWrite}
 use Rattle.plan.specs.Inside.{bankThrough, Ordered, FewKept, staged}
 use Rattle.plan.proofs.ChoiceLaws.{read-layable}

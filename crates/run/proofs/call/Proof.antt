@@ -12,9 +12,9 @@ use Rattle.kinds.specs.Frame.{ticks}
 use Rattle.kinds.specs.Reasons.{RightLengths}
 use Rattle.kinds.specs.Refusal.{said}
 use Rattle.sheet.specs.Sheet.{Side}
-use Rattle.maps.specs.Cells.{cellOf}
+use Rattle.switches.specs.Cells.{cellOf}
 use Rattle.maps.specs.Opened.{Shows}
-use Rattle.maps.proofs.CellLaws.{cell-into}
+use Rattle.switches.proofs.CellLaws.{cell-into}
 use Rattle.run.specs.Memory.{Memory}
 use Rattle.run.specs.States.{reading, next}
 use Rattle.run.specs.Call.{readsOf, writesOf}

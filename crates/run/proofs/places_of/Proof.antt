@@ -11,7 +11,7 @@ use lib.Seq.{getD-set-same, getD-set-other}
 use Rattle.kinds.specs.declared.Answer.{Answer}
 use Rattle.kinds.proofs.FirstLaws.{first-none}
 use Rattle.kinds.proofs.FrameLaws.{in-order-at, in-order-is}
-use Rattle.maps.specs.Cells.{cellAt}
+use Rattle.switches.specs.Cells.{cellAt}
 use Rattle.maps.specs.Opened.{ListsCells}
 use Rattle.maps.specs.declared.OpenSide.{OpenSide}
 use Rattle.run.specs.Inside.{mostPorts, ListsPlaces}

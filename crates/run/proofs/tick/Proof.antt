@@ -18,7 +18,7 @@ use Rattle.sheet.specs.Sheet.{writeSide, readSide}
 use Rattle.sheet.specs.Layout.{WellFormed}
 use Rattle.sheet.specs.Table.{sheetLengths, sheetTable}
 use Rattle.sheet.proofs.TableLaws.{sheet-sound}
-use Rattle.maps.specs.Cells.{M, N}
+use Rattle.switches.specs.Cells.{M, N}
 use Rattle.run.specs.Memory.{Memory}
 use Rattle.run.specs.Faults.{faults}
 use Rattle.run.specs.States.{Possible, impossible}

@@ -20,11 +20,11 @@ use Rattle.kinds.proofs.FrameLaws.{in-order-is}
 use Rattle.kinds.proofs.FirstLaws.{first-take, first-none}
 use Rattle.kinds.proofs.AnswerLaws.{not-both, refuses, does}
 use Rattle.bits.proofs.ImageLaws.{image-zero}
-use Rattle.maps.specs.Cells.{cellAt}
+use Rattle.switches.specs.Cells.{cellAt}
 use Rattle.maps.specs.Opened.{IsCell, ListsCells}
 use Rattle.maps.specs.Inside.{IsColumn, Doubled}
 use Rattle.maps.specs.declared.OpenSide.{OpenSide}
-use Rattle.maps.proofs.CellLaws.{cell-double}
+use Rattle.switches.proofs.CellLaws.{cell-double}
 use Rattle.maps.proofs.OpenLaws.{shown-k, is-bank, is-cell}
 use Rattle.maps.proofs.OpenSide.cells.Statement.{statement}
 use Rattle.maps.proofs.OpenSide.cells.Tie as tie

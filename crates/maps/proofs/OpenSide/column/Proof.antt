@@ -7,11 +7,12 @@ use borrow.Author.Needs.{needs}
 use lib.ListN.{getD}
 use Rattle.kinds.specs.Frame.{tickOf, portOf}
 use Rattle.sheet.specs.Sheet.{Side, stagesFrom}
-use Rattle.maps.specs.Cells.{afterStages, cellOf}
+use Rattle.switches.specs.Stages.{afterStages}
+use Rattle.switches.specs.Cells.{cellOf}
 use Rattle.maps.specs.Opened.{openWidth, Shows}
 use Rattle.maps.specs.Inside.{IsColumn}
 use Rattle.maps.specs.declared.OpenSide.{OpenSide}
-use Rattle.maps.proofs.CellLaws.{port-column, tick-column}
+use Rattle.switches.proofs.CellLaws.{port-column, tick-column}
 use Rattle.maps.proofs.OpenLaws.{shown-k, shown-addresses, shown-wiring, shown-stages, whole-number}
 use Rattle.maps.proofs.OpenSide.column.Statement.{statement}
 use Rattle.maps.proofs.OpenSide.column.Tie as tie

@@ -10,11 +10,11 @@ use Rattle.bits.proofs.ImageLaws.{columns-length, columns-at}
 use Rattle.sheet.specs.Sheet.{Side}
 use Rattle.sheet.proofs.LayLaws.{padded-length, padded-at}
 use Rattle.sheet.proofs.FillLaws.{Filled, fill-none, fill-more, fill-whole}
-use Rattle.maps.specs.Cells.{cellOf, cellColumns}
+use Rattle.switches.specs.Cells.{cellOf, cellColumns}
 use Rattle.maps.specs.Opened.{openWidth, padded, Shows, AreColumns}
 use Rattle.maps.specs.Inside.{IsColumn}
 use Rattle.maps.specs.declared.OpenSide.{OpenSide}
-use Rattle.maps.proofs.CellLaws.{column-beyond}
+use Rattle.switches.proofs.CellLaws.{column-beyond}
 use Rattle.maps.proofs.OpenSide.columns.Statement.{statement}
 use Rattle.maps.proofs.OpenSide.columns.Tie as tie
 

@@ -1,7 +1,5 @@
 -- Which cell each word has, on either side of a sheet (01, 'What a sheet holds').
 --   addressAt k S c p        the address of the word at tick c, port p: "the address columns applied to c*2^k + p"
---   switched s c b           the bank b after the stage s: it "xors its direction into the bank if control AND c has an odd number of ones"
---   afterStages ss c b       the bank b after each of the stages ss, in order
 --   bankAt S c p             the bank of that word: it "starts as the wiring applied to p", and goes through the stages
 --   cellAt k S c p           its cell: "address*2^k + bank"
 --   cellOf k S i             a side's map: the cell of word i
@@ -10,23 +8,15 @@
 --   portToBank k f p         the port-to-bank part of a map f of words to cells: the bank of the word at tick 0, port p
 --   tickToBank k f c         its tick-to-bank part: the bank of the word at tick c, port 0
 use Prim.Native.Nat.{ℕ, _+_, _*_, _^_}
-use mathlib.Core.List.{List, [], _∷_}
-use lib.Bits.{bitXor}
+use mathlib.Core.List.{List}
 use Rattle.kinds.specs.Edition.{Edition}
 use Rattle.kinds.specs.Frame.{tickOf, portOf, wordAt, bankOf}
-use Rattle.bits.specs.Image.{chosen, image, columns}
-use Rattle.bits.specs.Parity.{dot}
-use Rattle.sheet.specs.Sheet.{Stage, Side, writeSide, readSide}
+use Rattle.bits.specs.Image.{image, columns}
+use Rattle.sheet.specs.Sheet.{Side, writeSide, readSide}
+use Rattle.switches.specs.Stages.{afterStages}
 
 abbrev pub addressAt : ℕ → Side → ℕ → ℕ → ℕ
 addressAt k S c p = image (S .addresses) (wordAt k c p)
-
-abbrev pub switched : Stage → ℕ → ℕ → ℕ
-switched s c b = bitXor b (chosen (dot (s .control) c) (s .direction))
-
-unfoldable pub afterStages : List Stage → ℕ → ℕ → ℕ
-afterStages [] c b = b
-afterStages (s ∷ ss) c b = afterStages ss c (switched s c b)
 
 abbrev pub bankAt : Side → ℕ → ℕ → ℕ
 bankAt S c p = afterStages (S .stages) c (image (S .wiring) p)

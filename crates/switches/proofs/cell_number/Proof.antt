@@ -1,7 +1,7 @@
--- `maps::cell_number` meets its contract.
+-- `switches::cell_number` meets its contract.
 use borrow.Author.Needs.{needs}
-use Rattle.maps.proofs.cell_number.Statement.{statement}
-use Rattle.maps.proofs.cell_number.Tie as tie
+use Rattle.switches.proofs.cell_number.Statement.{statement}
+use Rattle.switches.proofs.cell_number.Tie as tie
 
 joined-requires : tie.Need-joined-requires
 joined-requires c κs = search needs

@@ -1,7 +1,4 @@
 -- Laws of a side's map.
---   after-append        stages after stages
---   stages-sum          what stages do to a bank: they xor in the selected directions
---   stages-made         stages that make up each column of a linear map of tick bits make up the map
 --   bank-parts          the bank of a word: what the wiring makes of its port, and the stages of its tick
 --   same-bank           two words of one tick share a bank exactly when the wiring sends their ports to one bank
 --   cell-word           the cell of the word at a tick and port is the map's
@@ -19,63 +16,32 @@
 --   column-beyond       beyond the nth its columns would be 0
 --   cell-double         one port bit more: one exclusive or
 --   maps-linear         M and N are linear, of a sheet that keeps the layout
-use Prim.Native.Nat.{ℕ, zero, suc, _+_, _-_, _*_, _/_, _%_, _^_, _<_, _≤_}
-use mathlib.Core.Path.{_≡_, refl, sym, ap, ap₂, _∙_}
-use mathlib.Core.List.{List, [], _∷_, _++_}
+use Prim.Native.Nat.{ℕ, suc, _+_, _-_, _*_, _^_, _<_, _≤_}
+use mathlib.Core.Path.{_≡_, sym, ap, ap₂, _∙_}
+use mathlib.Core.List.{List}
 use mathlib.Core.Logic.{_↔_}
 use native.Mathlib.Nat.{pow-suc, mod-eq-of-lt, div-eq-of-lt}
 use native.Mathlib.Omega.{arith}
 use lib.Arith.{digits-lt}
 use lib.Bits.{bitXor, xor-zero-r, xor-comm, xor-lt, xor-block, xor-shr, xor-mod}
 use lib.ListN.{length, getD, List·getD-eq-default}
-use lib.Pow.{pow-pos, pow-lt, pow-mono, lt-of-le-ones, split, high, low}
+use lib.Pow.{pow-pos, pow-lt, pow-mono, split, high, low}
 use Rattle.kinds.specs.Edition.{Edition}
 use Rattle.kinds.specs.Frame.{tickBits, tickOf, portOf, wordAt, addressOf, bankOf}
 use Rattle.kinds.proofs.FrameLaws.{frame-whole, tick-unit}
-use Rattle.bits.specs.Image.{chosen, image, AllBelow, Linear}
-use Rattle.bits.specs.Parity.{dot}
-use Rattle.bits.proofs.XorLaws.{xor-above, xor-assoc, xor-swap, xor-cancel}
-use Rattle.bits.proofs.ParityLaws.{dot-lt, dot-unit}
-use Rattle.bits.proofs.ImageLaws.{image-nil, image-cons, image-zero, image-xor, image-unit, image-lt, linear-image, linear-agree, linear-zero, columns-length, columns-below}
+use Rattle.bits.specs.Image.{image, AllBelow, Linear}
+use Rattle.bits.proofs.XorLaws.{xor-above, xor-swap, xor-cancel}
+use Rattle.bits.proofs.ImageLaws.{image-zero, image-xor, image-unit, image-lt, linear-image, linear-zero, columns-length, columns-below}
 use Rattle.span.specs.Maps.{Bijection}
 use Rattle.span.specs.Sums.{Independent}
 use Rattle.span.specs.Rows.{dots}
-use Rattle.span.proofs.RowLaws.{dots-cons, dots-xor}
 use Rattle.span.proofs.Counting.{bijection-same}
 use Rattle.span.proofs.SumLaws.{independent-bijection, bijection-independent}
-use Rattle.sheet.specs.Sheet.{Stage, Side}
-use Rattle.sheet.specs.Layout.{StageInRange, EachStage, InRange, WellFormed}
-use Rattle.maps.specs.Stages.{directions, controls, selected}
-use Rattle.maps.specs.Cells.{addressAt, afterStages, bankAt, cellAt, cellOf, M, N, cellColumns, portToBank, tickToBank}
-
-pub after-append : (ss ts : List Stage) (c b : ℕ) → afterStages (ss ++ ts) c b ≡ afterStages ts c (afterStages ss c b)
-unfolding afterStages
-after-append [] ts c b = refl
-after-append (s ∷ ss) ts c b = after-append ss ts c (bitXor b (chosen (dot (s .control) c) (s .direction)))
-
-selected-linear : (ss : List Stage) → Linear (selected ss)
-selected-linear ss c d = ap (image (directions ss)) (dots-xor (controls ss) c d) ∙ image-xor (directions ss) (dots (controls ss) c) (dots (controls ss) d)
-
-selected-cons : (s : Stage) (ss : List Stage) (c : ℕ) → selected (s ∷ ss) c ≡ bitXor (chosen (dot (s .control) c) (s .direction)) (selected ss c)
-selected-cons s ss c =
-    let odd = dot-lt (s .control) c in
-    let rest = dots (controls ss) c in
-    let low-bit : (dot (s .control) c + 2 * rest) % 2 ≡ dot (s .control) c = omega (arith, odd) in
-    let others : (dot (s .control) c + 2 * rest) / 2 ≡ rest = omega (arith, odd) in
-    ap (image (directions (s ∷ ss))) (dots-cons (s .control) (controls ss) c)
-    ∙ image-cons (s .direction) (directions ss) (dot (s .control) c + 2 * rest)
-    ∙ ap₂ (λ (x y : ℕ). bitXor (chosen x (s .direction)) (image (directions ss) y)) low-bit others
-
-pub stages-sum : (ss : List Stage) (c b : ℕ) → afterStages ss c b ≡ bitXor b (selected ss c)
-unfolding afterStages
-stages-sum [] c b = sym (ap (bitXor b) (image-nil (dots [] c)) ∙ xor-zero-r b)
-stages-sum (s ∷ ss) c b =
-    let one = chosen (dot (s .control) c) (s .direction) in
-    stages-sum ss c (bitXor b one) ∙ xor-assoc b one (selected ss c) ∙ ap (bitXor b) (sym (selected-cons s ss c))
-
-pub stages-made : (ss : List Stage) (t : ℕ) (f : ℕ → ℕ) → Linear f → ((j : ℕ) → j < t → selected ss (2 ^ j) ≡ f (2 ^ j))
-    → (c : ℕ) → c < 2 ^ t → selected ss c ≡ f c
-stages-made ss t f = linear-agree t (selected ss) f (selected-linear ss)
+use Rattle.sheet.specs.Sheet.{Side}
+use Rattle.sheet.specs.Layout.{InRange, WellFormed}
+use Rattle.switches.specs.Stages.{directions, controls, selected, afterStages}
+use Rattle.switches.specs.Cells.{addressAt, bankAt, cellAt, cellOf, M, N, cellColumns, portToBank, tickToBank}
+use Rattle.switches.proofs.StageLaws.{selected-linear, stages-sum, directions-below, selected-beyond}
 
 module _ (S : Side) where
   abbrev wired : ℕ → ℕ
@@ -107,18 +73,6 @@ module _ (S : Side) where
       ∙ ap₂ bitXor (image-xor (S .wiring) p q) (selected-linear (S .stages) c d)
       ∙ xor-swap (wired p) (wired q) (selected (S .stages) c) (selected (S .stages) d)
       ∙ sym (ap₂ bitXor (stages-sum (S .stages) c (wired p)) (stages-sum (S .stages) d (wired q)))
-
-directions-below : (k t : ℕ) (ss : List Stage) → EachStage (StageInRange (2 ^ k) t) ss → AllBelow (2 ^ k) (directions ss)
-directions-below k t [] each j h = absurd (omega arith)
-directions-below k t (s ∷ ss) each zero h = lt-of-le-ones k (each .0 .direction .most)
-directions-below k t (s ∷ ss) each (suc j) h = directions-below k t ss (each .1) j (omega arith)
-
-selected-beyond : (b t m : ℕ) (ss : List Stage) → EachStage (StageInRange b (2 ^ t)) ss → t ≤ m → selected ss (2 ^ m) ≡ 0
-selected-beyond b t m [] each h = image-nil (dots [] (2 ^ m))
-selected-beyond b t m (s ∷ ss) each h =
-    let small : s .control < 2 ^ m = omega (arith, lt-of-le-ones t (each .0 .control .most), pow-mono {i = t} {j = m} h) in
-    let even : dot (s .control) (2 ^ m) ≡ 0 = dot-unit m (s .control) ∙ ap (λ (x : ℕ). x % 2) (div-eq-of-lt small) in
-    selected-cons s ss (2 ^ m) ∙ rw even (selected-beyond b t m ss (each .1) h)
 
 module _ (k : ℕ) (S : Side) where
   pub cell-word : (c p : ℕ) → p < 2 ^ k → cellAt k S c p ≡ cellOf k S (wordAt k c p)

@@ -1,5 +1,4 @@
--- Stages, and a side's as 01's planner chooses them.
---   stages-rank          what stages make of any map has no greater rank than there are stages
+-- Laws of the side that is written for a map.
 --   kept-count           there are as many stages kept as the rank says
 --   kept-selected        the stages kept of a tick-to-bank part make up that part
 --   side-map             the side that is written for a map has that map
@@ -24,23 +23,19 @@ use Rattle.span.specs.Maps.{Into}
 use Rattle.span.specs.Rows.{dots, row}
 use Rattle.span.specs.Scan.{members, keptAt, kept, rank, units, mask, masks}
 use Rattle.span.proofs.RowLaws.{dots-lt, dots-xor, dots-bit}
-use Rattle.span.proofs.SumLaws.{sum-image, sum-member}
+use Rattle.span.proofs.SumLaws.{sum-member}
 use Rattle.span.proofs.ScanLaws.{members-at, units-at, keptAt-below, kept-independent}
 use Rattle.span.proofs.MaskLaws.{mask-unique, masks-length, masks-at}
-use Rattle.span.proofs.RankLaws.{rank-le-length, rank-width, rank-positions, columns-sum}
+use Rattle.span.proofs.RankLaws.{rank-le-length, rank-width, rank-positions}
 use Rattle.span.proofs.PositionLaws.{sum-by-bits}
-use Rattle.sheet.specs.Sheet.{Stage, Side}
+use Rattle.sheet.specs.Sheet.{Side}
 use Rattle.sheet.specs.Layout.{StageInRange, EachStage, InRange, Layable}
 use Rattle.sheet.proofs.StageLaws.{each-of}
-use Rattle.maps.specs.Cells.{portToBank, tickToBank, afterStages, cellOf}
-use Rattle.maps.specs.Stages.{directions, controls, selected, keptStage, keptStages, sideFor}
-use Rattle.maps.proofs.CellLaws.{stages-sum, stages-made, cell-linear, port-column, tick-column}
-
-pub stages-rank : (k : ℕ) (ss : List Stage) (f : ℕ → ℕ) → rank (columns k (λ p. selected ss (f p))) ≤ length ss
-stages-rank k ss f =
-    rw (← length-map ss (λ s. s .direction))
-    (rank-le-length (columns k (λ p. selected ss (f p))) (directions ss)
-    (columns-sum k (λ p. selected ss (f p)) (λ j h. sum-image (directions ss) (dots (controls ss) (f (2 ^ j))))))
+use Rattle.switches.specs.Stages.{afterStages, directions, controls, selected}
+use Rattle.switches.specs.Cells.{portToBank, tickToBank, cellOf}
+use Rattle.switches.specs.Written.{keptStage, keptStages, sideFor}
+use Rattle.switches.proofs.StageLaws.{stages-sum, stages-made}
+use Rattle.switches.proofs.CellLaws.{cell-linear, port-column, tick-column}
 
 module _ (F : List ℕ) where
   abbrev ps : List ℕ

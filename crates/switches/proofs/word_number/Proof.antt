@@ -1,7 +1,7 @@
--- `maps::word_number` meets its contract.
+-- `switches::word_number` meets its contract.
 use borrow.Author.Needs.{needs}
-use Rattle.maps.proofs.word_number.Statement.{statement}
-use Rattle.maps.proofs.word_number.Tie as tie
+use Rattle.switches.proofs.word_number.Statement.{statement}
+use Rattle.switches.proofs.word_number.Tie as tie
 
 joined-requires : tie.Need-joined-requires
 joined-requires c κs = search needs

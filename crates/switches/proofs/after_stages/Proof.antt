@@ -1,4 +1,4 @@
--- `maps::after_stages` meets its contract. The invariant: b is the bank after the first s stages.
+-- `switches::after_stages` meets its contract. The invariant: b is the bank after the first s stages.
 use Prim.Native.Nat.{ℕ, _+_, _-_, _/_, _≤_, _<_}
 use mathlib.Core.Path.{_≡_, sym, ap, _∙_}
 use mathlib.Core.List.{List}
@@ -11,10 +11,10 @@ use lib.ListN.{length}
 use Rattle.bits.specs.Parity.{parity, dot}
 use Rattle.bits.proofs.ParityLaws.{dot-lt}
 use Rattle.sheet.specs.Sheet.{stageAt, stagesIn, stagesFrom}
-use Rattle.maps.specs.Cells.{switched, afterStages}
-use Rattle.maps.proofs.OpenLaws.{after-none, after-more}
-use Rattle.maps.proofs.after_stages.Statement.{statement}
-use Rattle.maps.proofs.after_stages.Tie as tie
+use Rattle.switches.specs.Stages.{switched, afterStages}
+use Rattle.switches.proofs.StageLaws.{after-none, after-more}
+use Rattle.switches.proofs.after_stages.Statement.{statement}
+use Rattle.switches.proofs.after_stages.Tie as tie
 
 record Switching (l : List ℕ) (c b₀ b s : ℕ) : Type 0 where
   within : s ≤ length l / 2

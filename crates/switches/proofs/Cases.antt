@@ -10,7 +10,8 @@ use Rattle.bits.specs.Image.{image, columns}
 use Rattle.bits.specs.Parity.{parity, dot}
 use Rattle.sheet.specs.Sheet.{Side, stagesIn, writeSide}
 use Rattle.sheet.proofs.Cases.{reversal}
-use Rattle.maps.specs.Cells.{addressAt, afterStages, bankAt, M, N, cellColumns}
+use Rattle.switches.specs.Stages.{afterStages}
+use Rattle.switches.specs.Cells.{addressAt, bankAt, M, N, cellColumns}
 
 abbrev words : List ℕ
 words = 0 ∷ 1 ∷ 2 ∷ 3 ∷ 4 ∷ 5 ∷ 6 ∷ 7 ∷ []

@@ -12,9 +12,9 @@ use Rattle.kinds.specs.Edition.{Edition}
 use Rattle.kinds.specs.Reasons.{RightLengths, rightLengths?}
 use Rattle.kinds.specs.Refusal.{said, given}
 use Rattle.kinds.specs.declared.Answer.{Answer}
-use Rattle.sheet.specs.Price.{refusalOf as refusalOfPrice}
-use Rattle.sheet.specs.declared.Priced.{Priced}
-use Rattle.sheet.proofs.TableLaws.{prices-unique}
+use Rattle.price.specs.Price.{refusalOf as refusalOfPrice}
+use Rattle.price.specs.declared.Priced.{Priced}
+use Rattle.price.proofs.PriceLaws.{prices-unique}
 use Rattle.run.specs.Memory.{Memory}
 use Rattle.run.specs.Tool.{refusalOf, stateAfter}
 use Rattle.run.specs.declared.Ticked.{Ticked}

@@ -19,9 +19,9 @@ use Rattle.kinds.specs.First.{firstOf}
 use Rattle.kinds.specs.Reasons.{RightLengths, outside, wrongLength}
 use Rattle.kinds.specs.Refusal.{said, given, valuesOf}
 use Rattle.kinds.specs.declared.Answer.{Answer}
-use Rattle.sheet.specs.Price.{Prices, refusalOf as refusalOfPrice, sumsOf}
-use Rattle.sheet.specs.declared.Priced.{Priced}
-use Rattle.sheet.specs.declared.Priced.the-variants.{Costs, Refused as Unpriced}
+use Rattle.price.specs.Price.{Prices, refusalOf as refusalOfPrice, sumsOf}
+use Rattle.price.specs.declared.Priced.{Priced}
+use Rattle.price.specs.declared.Priced.the-variants.{Costs, Refused as Unpriced}
 use Rattle.run.specs.Memory.{Memory, onto}
 use Rattle.run.specs.Tool.{refusalOf, stateAfter, Ticks}
 use Rattle.run.specs.declared.State.{State}

@@ -13,7 +13,7 @@ use kinds::Answer;
 use kinds::Refusal;
 use run::State;
 use run::Ticked;
-use sheet::Priced;
+use price::Priced;
 
 fn number_of(answer: Answer) -> u32
     ensures { λ r. ⌜ r ≡ given (saidBy answer) ⌝ }
@@ -149,7 +149,7 @@ pub extern "C" fn board_price(n: u32, k: u32, sheet: &[u16], sums: &mut [u32]) -
     if sums.len() != 3 {
         return wrong_length(n, k);
     }
-    let priced = sheet::price(n, k, sheet);
+    let priced = price::price(n, k, sheet);
     match priced {
         Priced::Costs(price) => {
             put_three(sums, price.switches, price.multiplexers, price.gates);

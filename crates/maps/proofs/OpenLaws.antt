@@ -5,6 +5,7 @@
 --   whole-number      a cell loses no bit as a number of 16 bits
 --   is-bank, is-cell  the stages of an opened side after its wiring give the bank of a word; address*2^k + bank is its cell
 --   closed-shows      what stands for a side of a refused sheet shows one too, so every opened side that can be had shows one
+--   opens-refused     what a check refuses, opening refuses
 --   opens-unique      opening a sheet has one answer
 --   lists-unique      the cells of a tick have one answer, and leave one content
 use Prim.Native.Nat.{ℕ, _+_, _-_, _*_, _/_, _%_, _^_, _<_}
@@ -16,9 +17,12 @@ use native.Mathlib.Omega.{arith}
 use lib.ListN.{length, getD}
 use lib.Pow.{pow-mono}
 use Rattle.kinds.specs.Edition.{Edition}
+use Rattle.kinds.specs.Refusal.{said}
+use Rattle.kinds.specs.Answers.{Checks}
+use Rattle.kinds.specs.declared.Refusal.{Refusal}
 use Rattle.kinds.specs.declared.Answer.{Answer}
 use Rattle.kinds.specs.declared.Answer.the-variants.{Done, Refused}
-use Rattle.kinds.proofs.AnswerLaws.{said-same, checks-unique, answers-same, answers-agree}
+use Rattle.kinds.proofs.AnswerLaws.{not-both, said-same, checks-unique, answers-same, answers-agree}
 use Rattle.bits.specs.Image.{image}
 use Rattle.bits.proofs.ImageLaws.{same-image}
 use Rattle.sheet.specs.Sheet.{Stage, Side, stagesIn, stagesFrom, flat}
@@ -27,7 +31,7 @@ use Rattle.sheet.proofs.StageLaws.{same-stages}
 use Rattle.sheet.proofs.LayLaws.{padded-length, padded-at, flat-length, flat-stages}
 use Rattle.switches.specs.Stages.{afterStages}
 use Rattle.switches.specs.Cells.{cellAt}
-use Rattle.maps.specs.Opened.{openWidth, openStages, padded, closed, Shows, Opens, IsAddress, IsBank, IsCell, ListsCells}
+use Rattle.maps.specs.Opened.{openWidth, openStages, padded, closed, unopened, Shows, Opens, IsAddress, IsBank, IsCell, ListsCells}
 use Rattle.maps.specs.declared.OpenSide.{OpenSide}
 use Rattle.maps.specs.declared.Opened.{Opened}
 use Rattle.switches.proofs.StageLaws.{idle-stages}
@@ -84,6 +88,16 @@ closed-shows = record {
   stages = omega arith;
   used = record { addresses = λ j h. absurd (omega arith); wiring = λ j h. absurd (omega arith); stages = tt };
 }
+
+pub opens-refused : {e : Edition} {n k : ℕ} {s : List ℕ} {fits : Bool} {a : Answer} {x : Refusal} {r : Opened}
+    → Checks (sheetTable e n k s) fits a → a ≡ Refused x → r ≡ unopened x → Opens e n k s fits r
+opens-refused checks given e =
+    rw e (record {
+      answer = λ others f. ap said (sym given) ∙ checks others f;
+      write = λ d. not-both d refl;
+      read = λ d. not-both d refl;
+      refused = λ y same. (refl, refl);
+    })
 
 module _ {e : Edition} {n k : ℕ} {s : List ℕ} {fits : Bool} (r q : Opened) (a : Opens e n k s fits r) (b : Opens e n k s fits q) where
   pub opens-unique : r ≡ q

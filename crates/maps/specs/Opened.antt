@@ -4,7 +4,10 @@
 --   opened k S                   the side S, opened
 --   Shows n k o S                o is the side S, opened: S has n address columns, k wiring columns and at most openStages stages, all in range
 --   closed                       what stands in place of a side where the sheet was refused
+--   unopened x                   what is opened where the refusal x is given: neither side
 --   Opens e n k s fits r         opening the sheet s: r has the lowest of 1, 2 and 5 that applies, fits as in `Checks`; where none does, r shows both sides
+--   readdressed B S              the side S with the address columns B in place of its own
+--   Readdresses o A r            r is o with the address columns A: where o shows a side, and A is n columns in range, and zeros after them, r shows that side with these
 --   IsAddress o c p r            r is the address of the word at tick c, port p, on whichever side o shows
 --   IsBank o c p r               r is its bank
 --   IsCell o c p r               r is its cell
@@ -17,13 +20,14 @@ use mathlib.Core.Bool.{Bool}
 use mathlib.Core.List.{List, [], _∷_}
 use lib.ListN.{length}
 use Rattle.kinds.specs.Edition.{Edition}
-use Rattle.kinds.specs.Frame.{inOrder}
+use Rattle.kinds.specs.Frame.{tickBits, inOrder}
 use Rattle.kinds.specs.Refusal.{said}
 use Rattle.kinds.specs.Reasons.{wrongLength}
 use Rattle.kinds.specs.Answers.{Checks, Answers}
 use Rattle.kinds.specs.declared.Answer.{Answer}
 use Rattle.kinds.specs.declared.Answer.the-variants.{Done, Refused}
 use Rattle.kinds.specs.declared.Refusal.{Refusal}
+use Rattle.bits.specs.Image.{AllBelow}
 use Rattle.sheet.specs.Sheet.{Side, writeSide, readSide, paddedTo, flat}
 use Rattle.sheet.specs.Layout.{InRange}
 use Rattle.sheet.specs.Table.{sheetTable}
@@ -55,11 +59,21 @@ pub record Shows (n k : ℕ) (o : OpenSide) (S : Side) : Type 0 where
 abbrev pub closed : OpenSide
 closed = opened 0 (record { addresses = []; wiring = []; stages = [] })
 
+abbrev pub unopened : Refusal → Opened
+unopened x = record { answer = Refused x; write = closed; read = closed }
+
 pub record Opens (e : Edition) (n k : ℕ) (s : List ℕ) (fits : Bool) (r : Opened) : Type 0 where
   pub answer : Checks (sheetTable e n k s) fits (r .answer)
   pub write : r .answer ≡ Done → Shows n k (r .write) (writeSide e n k s)
   pub read : r .answer ≡ Done → Shows n k (r .read) (readSide e n k s)
   pub refused : (x : Refusal) → r .answer ≡ Refused x → (r .write ≡ closed) × (r .read ≡ closed)
+
+abbrev pub readdressed : List ℕ → Side → Side
+readdressed B S = record { addresses = B; wiring = S .wiring; stages = S .stages }
+
+pub record Readdresses (o : OpenSide) (A : List ℕ) (r : OpenSide) : Type 0 where
+  pub is : r ≡ record { k = o .k; addresses = A; wiring = o .wiring; stages = o .stages }
+  pub shows : (n k : ℕ) (S : Side) (B : List ℕ) → Shows n k o S → A ≡ padded B → length B ≡ n → AllBelow (2 ^ tickBits n k) B → Shows n k r (readdressed B S)
 
 abbrev pub IsAddress : OpenSide → ℕ → ℕ → ℕ → Type 0
 IsAddress o c p r = (n k : ℕ) (S : Side) → Shows n k o S → r ≡ addressAt k S c p

@@ -3,7 +3,7 @@ ghost use mathlib.Core.Path.{_≡_};
 ghost use Prim.Native.Nat.{_+_, _*_, _%_, _^_, _≤_};
 ghost use lib.ListN.{length, getD};
 ghost use Rattle.kinds.specs.Edition.{edition1, sidePlaces};
-ghost use Rattle.maps.specs.Opened.{openWidth, padded as paddedOf, Opens, IsAddress, IsBank, IsCell, IsWiring, AreColumns, ListsCells};
+ghost use Rattle.maps.specs.Opened.{openWidth, padded as paddedOf, unopened, Opens, Readdresses, IsAddress, IsBank, IsCell, IsWiring, AreColumns, ListsCells};
 ghost use Rattle.maps.specs.Inside.{OpensSide, IsColumn, Doubled};
 use kinds::Addr;
 use kinds::Answer;
@@ -34,19 +34,8 @@ pub fn open(n: u32, k: u32, sheet: &[u16], fits: bool) -> Opened
     ensures { λ r. ⌜ Opens edition1 n k (now (sheet .entry)) fits r ⌝ }
 {
     let answer = sheet::check(n, k, sheet, fits);
-    let done = kinds::is_done(answer);
-    if !done {
-        let closed = OpenSide {
-            k: 0,
-            addresses: [0; WIDTH],
-            wiring: [0; WIDTH],
-            stages: [0; WIDTH],
-        };
-        return Opened {
-            answer,
-            write: closed,
-            read: closed,
-        };
+    if let Answer::Refused(refusal) = answer {
+        return refused(refusal);
     }
     let write = open_side(k, &sheet[0..sheet::SIDE]);
     let read = open_side(k, &sheet[sheet::SIDE..]);
@@ -54,6 +43,23 @@ pub fn open(n: u32, k: u32, sheet: &[u16], fits: bool) -> Opened
         answer,
         write,
         read,
+    }
+}
+
+// What is opened where the refusal is given: no side.
+pub fn refused(refusal: Refusal) -> Opened
+    ensures { λ r. ⌜ r ≡ unopened refusal ⌝ }
+{
+    let closed = OpenSide {
+        k: 0,
+        addresses: [0; WIDTH],
+        wiring: [0; WIDTH],
+        stages: [0; WIDTH],
+    };
+    Opened {
+        answer: Answer::Refused(refusal),
+        write: closed,
+        read: closed,
     }
 }
 
@@ -127,6 +133,20 @@ impl OpenSide {
         ensures { λ r. ⌜ IsWiring self r ⌝ }
     {
         self.wiring
+    }
+
+    // The side with other address columns, and zeros after them: whichever run chooses its own addresses keeps the sheet's banks.
+    pub fn with_addresses(self, addresses: [u16; WIDTH]) -> OpenSide
+        ensures { λ r. ⌜ Readdresses self addresses r ⌝ }
+    {
+        let wiring = self.wiring;
+        let stages = self.stages;
+        OpenSide {
+            k: self.k,
+            addresses,
+            wiring,
+            stages,
+        }
     }
 
     // The columns of the side's map, and zeros after them.

@@ -20,7 +20,7 @@ use Rattle.span.specs.Sums.{independent?}
 use Rattle.span.specs.Rows.{dots, rows}
 use Rattle.order.specs.Order.{place}
 use Rattle.order.specs.Parts.{rowsP1, rowsP2, rowsP3, rowsP4}
-use Rattle.order.specs.Table.{orderTable, inverseTable, moverTable}
+use Rattle.order.specs.Table.{columnTable, orderTable, inverseTable, moverTable}
 
 abbrev reversal : ℕ → List ℕ
 reversal n = columns n (λ u. 2 ^ (n - 1) / u)
@@ -75,6 +75,13 @@ refused-with-k : map (λ (n, k). given (firstOf (orderTable (sized? edition1 n k
     ) ≡ 2 ∷ 1 ∷ 1 ∷ 1 ∷ 1 ∷ []
 unfolding image firstOf sizedN? sized? decLe rightLengths? ℕ-discrete someBelow independent?
 refused-with-k = refl
+
+-- of two lists: 2 for either, then 3 for either, then 4 for either
+refused-lists : map (λ (C, D). given (firstOf (columnTable 2 (C ∷ D ∷ []) []))) (
+    (1 ∷ 2 ∷ [], 2 ∷ 1 ∷ []) ∷ (4 ∷ 4 ∷ [], 1 ∷ []) ∷ (1 ∷ 1 ∷ [], 1 ∷ 4 ∷ []) ∷ (1 ∷ 2 ∷ [], 1 ∷ 1 ∷ []) ∷ []
+    ) ≡ 0 ∷ 2 ∷ 3 ∷ 4 ∷ []
+unfolding image firstOf decLe rightLengths? ℕ-discrete someBelow independent?
+refused-lists = refl
 
 abbrev stride : List ℕ
 stride = 2 ∷ 4 ∷ 8 ∷ 1 ∷ []

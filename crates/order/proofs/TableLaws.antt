@@ -7,7 +7,7 @@
 use Prim.Native.Nat.{ℕ, _^_}
 use mathlib.Core.Path.{_≡_, sym, ap, _∙_}
 use mathlib.Core.Bool.{Bool}
-use mathlib.Core.List.{List, _∷_}
+use mathlib.Core.List.{List, [], _∷_}
 use mathlib.Core.Logic.{_↔_}
 use mathlib.Core.Option.{none}
 use native.Mathlib.Decide.{decLt}
@@ -37,10 +37,10 @@ too-large n C beyond = stable (tooLarge n C .decided) (λ small. beyond (not-lar
 
 module _ {S : Type 0} (sized : Dec S) (n : ℕ) (C : List ℕ) where
   pub outside-sizes : (fits : Bool) {r : Answer} → ¬ S → r ≡ Refused Sizes → Checks (orderTable sized n C) fits r
-  outside-sizes fits out e others f = ap said e ∙ sym (first-take (outside sized) (columnTable n C others) out)
+  outside-sizes fits out e others f = ap said e ∙ sym (first-take (outside sized) (columnTable n (C ∷ []) others) out)
 
   pub within-sizes : (fits : Bool) {r : Checked} → S → ChecksColumns n C fits r → Checks (orderTable sized n C) fits (r .answer)
-  within-sizes fits s j others f = j .answer others f ∙ sym (first-skip (outside sized) (columnTable n C others) (λ out. out s))
+  within-sizes fits s j others f = j .answer others f ∙ sym (first-skip (outside sized) (columnTable n (C ∷ []) others) (λ out. out s))
 
   pub order-ascending : (others : List (ℕ × ℕ)) → Ascending (orderTable sized n C others)
   order-ascending others =

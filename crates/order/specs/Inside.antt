@@ -8,7 +8,7 @@
 use Prim.Native.Nat.{ℕ, _+_, _-_, _^_, _<_, _≤_}
 use mathlib.Core.Path.{_≡_}
 use mathlib.Core.Bool.{Bool}
-use mathlib.Core.List.{List}
+use mathlib.Core.List.{List, [], _∷_}
 use lib.ListN.{length, getD}
 use Rattle.kinds.specs.Edition.{edition1, sizedN?}
 use Rattle.kinds.specs.Answers.{Checks}
@@ -24,7 +24,7 @@ abbrev pub Few : List ℕ → Type 0
 Few C = length C ≤ room
 
 pub record ChecksColumns (n : ℕ) (C : List ℕ) (fits : Bool) (r : Checked) : Type 0 where
-  pub answer : Checks (columnTable n C) fits (r .answer)
+  pub answer : Checks (columnTable n (C ∷ [])) fits (r .answer)
   pub holds : r .answer ≡ Done → Holds (r .scan) C
 
 pub record ChecksAndScans (n : ℕ) (C : List ℕ) (fits : Bool) (r : Checked) : Type 0 where

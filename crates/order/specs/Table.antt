@@ -2,12 +2,12 @@
 --   ColumnTooLarge n C        a column of C is 2^n or more
 --   tooLarge n C              3: a column is 2^n or more
 --   dependent C               4: columns dependent
---   columnTable n C others    2 to 4, where the lengths lent beside the columns, and what they should be, are others
---   orderTable d n C others   1 to 4, where d decides whether the sizes are right
+--   columnTable n Cs others   2 to 4 of the lists of columns Cs, 2 for any of them, then 3 for any, then 4 for any, where the lengths lent beside them, and what they should be, are others
+--   orderTable d n C others   1 to 4 of the one list C, where d decides whether the sizes are right
 --   inverseLengths n out, moverLengths n frame out          the lengths lent to the inverse and to the mover beside the columns
 --   inverseTable e n C out, moverTable e n C frame out      their tables: they take no k
 use Prim.Native.Nat.{ℕ, _^_, _<_, _≤_}
-use mathlib.Core.List.{List, [], _∷_}
+use mathlib.Core.List.{List, [], _∷_, _++_, map}
 use native.Mathlib.Decide.{decLe}
 use lib.ListN.{length, getD}
 use Rattle.kinds.specs.Edition.{Edition, sizedN?}
@@ -30,11 +30,11 @@ tooLarge n C = record {
 abbrev pub dependent : List ℕ → Reason
 dependent C = unless Dependent (independent? C)
 
-abbrev pub columnTable : ℕ → List ℕ → List (ℕ × ℕ) → List Reason
-columnTable n C others = wrongLength ((length C, n) ∷ others) ∷ tooLarge n C ∷ dependent C ∷ []
+abbrev pub columnTable : ℕ → List (List ℕ) → List (ℕ × ℕ) → List Reason
+columnTable n Cs others = wrongLength (map (λ C. (length C, n)) Cs ++ others) ∷ map (tooLarge n) Cs ++ map dependent Cs
 
 abbrev pub orderTable : {S : Type 0} → Dec S → ℕ → List ℕ → List (ℕ × ℕ) → List Reason
-orderTable sized n C others = outside sized ∷ columnTable n C others
+orderTable sized n C others = outside sized ∷ columnTable n (C ∷ []) others
 
 abbrev pub inverseLengths : ℕ → List ℕ → List (ℕ × ℕ)
 inverseLengths n out = (length out, n) ∷ []

@@ -1,11 +1,11 @@
 -- The meanings on sheets of 01. The sheet planned for bit reversal at n 3, k 1 (write addresses 2 1 0, read addresses 0 1 2, wirings 1, stages (1,2) and (1,2)) is
--- taken, and read as it was laid out; its price is 2 switches, 2 multiplexers and no xor gate.
+-- taken, and read as it was laid out.
 --   reversal       that sheet
+--   staged m       a side of eight stages (1, 31), written down as m
 use Prim.Native.Nat.{ℕ, zero, suc, _+_}
 use mathlib.Core.Path.{_≡_, refl}
 use mathlib.Core.List.{List, [], _∷_, _++_, map}
 use native.Mathlib.Decide.{ℕ-discrete, decLe, decLt}
-use lib.Count.{ones}
 use lib.ListN.{set, replicate}
 use Rattle.kinds.specs.Edition.{edition1, sized?}
 use Rattle.kinds.specs.Refusal.{given}
@@ -16,7 +16,6 @@ use Rattle.bits.specs.Image.{allBelow?}
 use Rattle.sheet.specs.Sheet.{stagesIn, writeSide, readSide}
 use Rattle.sheet.specs.Layout.{fromTo?, stageInRange?, eachStage?, inRange?, allZero?, formedSide?, wellFormed?}
 use Rattle.sheet.specs.Table.{sheetTable}
-use Rattle.sheet.specs.Price.{total, priceOf}
 
 abbrev zeros : ℕ → List ℕ
 zeros n = replicate n 0
@@ -38,8 +37,7 @@ answer n k s = given (firstOf (sheetTable edition1 n k s []))
 abbrev spoilt : ℕ × ℕ → ℕ × ℕ
 spoilt (j, v) = (answer 3 1 (set reversal j v), answer 3 1 (set reversal (32 + j) v))
 
--- a side of eight stages (1, 31), written down as m
-abbrev staged : ℕ → List ℕ
+abbrev pub staged : ℕ → List ℕ
 staged m = zeros 15 ++ (m ∷ flat 8)
   where
     flat : ℕ → List ℕ
@@ -63,7 +61,3 @@ answers : (map (λ (n, k, s). answer n k s) (
     × (map (λ (a, m). answer 2 2 (one-tick a m ++ one-tick 0 0)) ((0, 0) ∷ (0, 1) ∷ (1, 0) ∷ []) ≡ 0 ∷ 5 ∷ 5 ∷ [])
 unfolding firstOf sized? decLe rightLengths? ℕ-discrete stagesIn fromTo? stageInRange? eachStage? allBelow? inRange? allZero? formedSide? wellFormed? eachBelow decLt
 answers = (refl, refl, refl, refl, refl)
-
-prices : (priceOf edition1 3 1 reversal ≡ 2 ∷ 2 ∷ 0 ∷ []) × (priceOf edition1 10 5 (staged 8 ++ staged 8) ≡ 256 ∷ 256 ∷ 64 ∷ [])
-unfolding stagesIn total ones
-prices = (refl, refl)

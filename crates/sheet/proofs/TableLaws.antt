@@ -1,16 +1,15 @@
--- The table of 1, 2 and 5, and the price.
+-- The table of 1, 2 and 5.
 --   sheet-ascending     the table's numbers go up, so the first that applies is the lowest
 --   sheet-sound         none applies exactly when the sizes are right, every lent length is, and the sheet keeps the layout
 --   check-sound         so a sheet whose check was done has the right sizes and length, and keeps the layout
---   prices-unique       the price tool has one answer
 use Prim.Native.Nat.{ℕ}
-use mathlib.Core.Path.{_≡_, refl, sym, ap, _∙_}
+use mathlib.Core.Path.{_≡_, sym, ap, _∙_}
 use mathlib.Core.Bool.{Bool}
-use mathlib.Core.List.{List, [], _∷_, _++_}
+use mathlib.Core.List.{List, _++_}
 use mathlib.Core.Logic.{_↔_}
 use mathlib.Core.Option.{none}
 use native.Mathlib.Omega.{arith}
-use lib.ListN.{length, getD}
+use lib.ListN.{length}
 use Rattle.kinds.specs.Edition.{Edition, Sized, sized?, sheetPlaces}
 use Rattle.kinds.specs.Answers.{Checks}
 use Rattle.kinds.specs.Refusal.{said}
@@ -19,14 +18,10 @@ use Rattle.kinds.specs.declared.Answer.the-variants.{Done}
 use Rattle.kinds.specs.First.{firstOf, Ascending}
 use Rattle.kinds.specs.Reasons.{RightLengths, rightLengths?}
 use Rattle.kinds.proofs.TruthLaws.{stable}
-use Rattle.kinds.proofs.AnswerLaws.{some-lengths, answers-same}
-use Rattle.kinds.proofs.FirstLaws.{none-some, first-none}
+use Rattle.kinds.proofs.AnswerLaws.{some-lengths}
+use Rattle.kinds.proofs.FirstLaws.{first-none}
 use Rattle.sheet.specs.Layout.{WellFormed, wellFormed?}
 use Rattle.sheet.specs.Table.{sheetLengths, sheetTable}
-use Rattle.sheet.specs.Price.{Prices}
-use Rattle.sheet.specs.declared.Sums.{Sums}
-use Rattle.sheet.specs.declared.Priced.{Priced}
-use Rattle.sheet.specs.declared.Priced.the-variants.{Costs, Refused}
 
 module _ (e : Edition) (n k : ℕ) (s : List ℕ) (others : List (ℕ × ℕ)) where
   pub sheet-ascending : Ascending (sheetTable e n k s others)
@@ -50,16 +45,3 @@ check-sound {e} {n} {k} {s} fits c d =
     let (others, says) = some-lengths fits in
     let (sized, right, formed) = sheet-sound e n k s others .0 (sym (c others says) ∙ ap said d) in
     (sized, right .0, formed)
-
-carry-same : (p q : Sums) → p .switches ∷ p .multiplexers ∷ p .gates ∷ [] ≡ q .switches ∷ q .multiplexers ∷ q .gates ∷ [] → p ≡ q
-carry-same p q e = made (ap (λ (l : List ℕ). getD l 0 0) e) (ap (λ (l : List ℕ). getD l 1 0) e) (ap (λ (l : List ℕ). getD l 2 0) e)
-  where
-    made : {a b c x y z : ℕ} → a ≡ x → b ≡ y → c ≡ z
-        → _≡_ {A = Sums} (record { switches = a; multiplexers = b; gates = c }) (record { switches = x; multiplexers = y; gates = z })
-    made f g h = cc
-
-pub prices-unique : {e : Edition} {n k : ℕ} {s : List ℕ} (a b : Priced) → Prices e n k s a → Prices e n k s b → a ≡ b
-prices-unique (Costs p) (Costs q) x y = ap Costs (carry-same p q (x .done refl ∙ sym (y .done refl)))
-prices-unique (Costs p) (Refused v) x y = none-some (answers-same x y)
-prices-unique (Refused u) (Costs q) x y = none-some (sym (answers-same x y))
-prices-unique (Refused u) (Refused v) x y = let e = answers-same x y in cc

@@ -1,14 +1,11 @@
 -- What the functions inside the crate promise one another.
 --   Whole e n k l     n and k are within the sizes, and l is all places of a side
 --   Room m l          l has places for m stages
---   Controlled m l    l has places for m stages, which are no more than a sheet of edition 1 may have, and each has a control that is not 0
 use Prim.Native.Nat.{ℕ, _*_, _≤_}
 use mathlib.Core.Path.{_≡_}
 use mathlib.Core.List.{List}
 use lib.ListN.{length}
-use Rattle.kinds.specs.Edition.{Edition, edition1, Sized, sidePlaces}
-use Rattle.sheet.specs.Sheet.{stagesIn}
-use Rattle.sheet.specs.Layout.{EachStage}
+use Rattle.kinds.specs.Edition.{Edition, Sized, sidePlaces}
 
 pub record Whole (e : Edition) (n k : ℕ) (l : List ℕ) : Type 0 where
   pub sized : Sized e n k
@@ -16,8 +13,3 @@ pub record Whole (e : Edition) (n k : ℕ) (l : List ℕ) : Type 0 where
 
 abbrev pub Room : ℕ → List ℕ → Type 0
 Room m l = 2 * m ≤ length l
-
-pub record Controlled (m : ℕ) (l : List ℕ) : Type 0 where
-  pub room : Room m l
-  pub few : m ≤ edition1 .most-stages
-  pub controls : EachStage (λ s. 1 ≤ s .control) (stagesIn m l)

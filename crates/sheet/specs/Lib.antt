@@ -1,6 +1,5 @@
--- What a sheet holds, when it breaks the layout, and what it costs.
+-- What a sheet holds, and when it breaks the layout.
 pub mod Sheet
 pub mod Layout
 pub mod Table
-pub mod Price
 pub mod Inside

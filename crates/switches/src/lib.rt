@@ -27,9 +27,11 @@ pub fn slot_of(i: u32, k: u32) -> Slot
             port: Port(i),
         };
     }
+    let tick = i / ports;
+    let port = i % ports;
     Slot {
-        tick: Tick(i / ports),
-        port: Port(i % ports),
+        tick: Tick(tick),
+        port: Port(port),
     }
 }
 

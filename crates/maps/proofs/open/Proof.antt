@@ -1,41 +1,39 @@
 -- `maps::open` meets its contract. Past the check both sides keep the layout, so that each can be opened.
 use Prim.Native.Nat.{ℕ}
-use mathlib.Core.Path.{_≡_, refl, subst}
+use mathlib.Core.Path.{_≡_, subst}
 use mathlib.Core.List.{List}
 use native.Mathlib.Omega.{arith}
 use borrow.Author.Needs.{needs}
-use borrow.Author.Tests.{not-true, not-false}
 use lib.ListN.{length, length-take, length-drop}
 use lib.Seq.{length-take-le}
 use Rattle.kinds.specs.Edition.{edition1, Sized, sheetPlaces}
 use Rattle.kinds.specs.declared.Answer.the-variants.{Done}
-use Rattle.kinds.proofs.TruthLaws.{denied}
 use Rattle.kinds.proofs.AnswerLaws.{not-both}
 use Rattle.sheet.specs.Layout.{WellFormed}
 use Rattle.sheet.proofs.PlaceLaws.{last-part}
 use Rattle.sheet.proofs.TableLaws.{check-sound}
 use Rattle.maps.specs.Inside.{OpensSide}
+use Rattle.maps.proofs.OpenLaws.{opens-refused}
 use Rattle.maps.proofs.open.Statement.{statement}
 use Rattle.maps.proofs.open.Tie as tie
 
 check-requires : tie.Need-check-requires
 check-requires c κs = search needs
 
-is-done-requires : tie.Need-is-done-requires
-is-done-requires c κs = search needs
+enum-known-answer : tie.Need-enum-known-answer
+enum-known-answer c = search needs
+
+refused-requires : tie.Need-refused-requires
+refused-requires c κs = search needs
 
 returns : tie.Need-returns
-returns c =
-    let undone = denied (c .before .is-done .ensures) (not-true _ (c .if1 .taken)) in
-    record {
-      answer = c .before .before .check .ensures;
-      write = λ d. absurd (undone d);
-      read = λ d. absurd (undone d);
-      refused = λ x e. (refl, refl);
-    }
+returns c = opens-refused (c .before .before .before .before .check .ensures) (c .before .before .answer .given .1) (c .refused .ensures)
+
+enum-told : tie.Need-enum-told
+enum-told c = search needs
 
 -- the check was done
-module _ (c : tie.Else1) where
+module _ (c : tie.After-enum-told) where
   abbrev start : tie.Start
   start = c .before .before .before .before
 
@@ -43,7 +41,7 @@ module _ (c : tie.Else1) where
   s = start .args .sheet .now
 
   done : c .before .before .check .result ≡ Done
-  done = c .before .is-done .ensures .0 (not-false _ (c .if1 .left))
+  done = c .enum-told .given .1
 
   sound : Sized edition1 (start .args .n) (start .args .k) × (length s ≡ sheetPlaces edition1) × WellFormed edition1 (start .args .n) (start .args .k) s
   sound = check-sound (start .args .fits) (c .before .before .check .ensures) done
@@ -90,8 +88,10 @@ open-spec =
     tie.close
     (tie.spec
     check-requires
-    is-done-requires
+    enum-known-answer
+    refused-requires
     returns
+    enum-told
     sub-open-side
     part-open-side-start
     part-open-side-end

@@ -28,7 +28,7 @@ use Rattle.order.proofs.check_columns.Tie as tie
 
 record Gives (n : ℕ) (C : List ℕ) (fits : Bool) (o : Option Refusal) : Type 0 where
   gives : (others : List (ℕ × ℕ)) → Says fits (RightLengths others)
-      → firstOf (columnTable n C others) ≡ o
+      → firstOf (columnTable n (C ∷ []) others) ≡ o
 
 module _ {n : ℕ} {C : List ℕ} {fits : Bool} where
   refuses : {x : Refusal} {r : Checked} → r .answer ≡ Refused x → Gives n C fits (some x) → ChecksColumns n C fits r

@@ -32,11 +32,11 @@ returns c =
 two-to-requires : tie.Need-two-to-requires
 two-to-requires c κs = search needs
 
-div-t7 : tie.Need-div-t7
-div-t7 c = search needs
+div-tick : tie.Need-div-tick
+div-tick c = search needs
 
-rem-t9 : tie.Need-rem-t9
-rem-t9 c = search needs
+rem-port : tie.Need-rem-port
+rem-port c = search needs
 
 returns-2 : tie.Need-returns-2
 returns-2 c =
@@ -45,4 +45,4 @@ returns-2 c =
     (ap (λ (x : ℕ). i / x) ports, ap (λ (x : ℕ). i % x) ports)
 
 pub slot-of-spec : {M : Type 1} → statement M
-slot-of-spec = tie.close (tie.spec two-to-requires returns div-t7 rem-t9 returns-2)
+slot-of-spec = tie.close (tie.spec two-to-requires returns div-tick rem-port returns-2)

@@ -1,4 +1,4 @@
--- `sheet::price` meets its contract. Past the check both sides keep the layout, so that each sum is small, and no control is 0.
+-- `price::price` meets its contract. Past the check both sides keep the layout, so that each sum is small, and no control is 0.
 use Prim.Native.Nat.{ℕ, _+_, _-_, _*_, _^_, _≤_}
 use mathlib.Core.Path.{_≡_, sym, ap, ap₂, _∙_}
 use mathlib.Core.List.{List, [], _∷_}
@@ -19,15 +19,16 @@ use Rattle.kinds.specs.Reasons.{RightLengths}
 use Rattle.kinds.specs.Refusal.{said}
 use Rattle.kinds.proofs.TruthLaws.{says-yes}
 use Rattle.kinds.proofs.AnswerLaws.{refused-by, done-by}
 use Rattle.sheet.specs.Sheet.{countPlace, stagePlaces, stagesIn, sideOf, writePlaces, readPlaces, writeSide, readSide}
 use Rattle.sheet.specs.Layout.{FormedSide, WellFormed}
 use Rattle.sheet.specs.Table.{sheetLengths, sheetTable}
-use Rattle.sheet.specs.Price.{total, xorGates, allStages}
-use Rattle.sheet.proofs.StageLaws.{formed-stage, controlled, total-append, total-const, gates-few}
+use Rattle.price.specs.Price.{total, xorGates, allStages}
+use Rattle.sheet.proofs.StageLaws.{formed-stage}
+use Rattle.price.proofs.PriceLaws.{controlled, total-append, total-const, gates-few}
 use Rattle.sheet.proofs.PlaceLaws.{unused-part, last-part}
 use Rattle.sheet.proofs.TableLaws.{sheet-sound}
-use Rattle.sheet.proofs.price.Statement.{statement}
-use Rattle.sheet.proofs.price.Tie as tie
+use Rattle.price.proofs.price.Statement.{statement}
+use Rattle.price.proofs.price.Tie as tie
 
 -- where a sheet of 64 places has the counts and the stages of its sides
 module _ (s : List ℕ) where

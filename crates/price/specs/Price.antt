@@ -17,10 +17,10 @@ use Rattle.kinds.specs.Answers.{Answers}
 use Rattle.kinds.specs.Edition.{Edition}
 use Rattle.kinds.specs.Refusal.{valuesOf}
 use Rattle.kinds.specs.declared.Refusal.{Refusal}
 use Rattle.sheet.specs.Sheet.{Stage, writeSide, readSide}
 use Rattle.sheet.specs.Table.{sheetTable}
-use Rattle.sheet.specs.declared.Priced.{Priced}
-use Rattle.sheet.specs.declared.Priced.the-variants.{Costs, Refused}
+use Rattle.price.specs.declared.Priced.{Priced}
+use Rattle.price.specs.declared.Priced.the-variants.{Costs, Refused}
 
 unfoldable pub total : (Stage → ℕ) → List Stage → ℕ
 total f [] = 0

@@ -1,4 +1,4 @@
--- `sheet::xor_gates` meets its contract. Invariant: the gates of the stages passed have been counted.
+-- `price::xor_gates` meets its contract. Invariant: the gates of the stages passed have been counted.
 use Prim.Native.Nat.{ℕ, _+_, _-_, _*_, _≤_, _<_}
 use mathlib.Core.Path.{_≡_, sym}
 use mathlib.Core.List.{List}
@@ -7,11 +7,12 @@ use mir.Facts.{fits-widen}
 use native.Mathlib.Omega.{arith}
 use lib.Count.{ones, ones-le}
 use Rattle.bits.proofs.ParityLaws.{ones-least}
 use Rattle.sheet.specs.Sheet.{stagesIn, stageAt}
-use Rattle.sheet.specs.Price.{total, xorGates}
-use Rattle.sheet.proofs.StageLaws.{each-stage, total-none, total-more, gates-few}
-use Rattle.sheet.proofs.xor_gates.Statement.{statement}
-use Rattle.sheet.proofs.xor_gates.Tie as tie
+use Rattle.price.specs.Price.{total, xorGates}
+use Rattle.sheet.proofs.StageLaws.{each-stage}
+use Rattle.price.proofs.PriceLaws.{total-none, total-more, gates-few}
+use Rattle.price.proofs.xor_gates.Statement.{statement}
+use Rattle.price.proofs.xor_gates.Tie as tie
 
 record Counted (l : List ℕ) (count gates s : ℕ) : Type 0 where
   within : s ≤ count

@@ -1,0 +1,3 @@
+-- Laws of the price, and cases.
+pub mod PriceLaws
+pub mod Cases

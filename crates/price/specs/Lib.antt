@@ -1,0 +1,3 @@
+-- What a sheet costs.
+pub mod Price
+pub mod Inside

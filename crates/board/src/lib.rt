@@ -11,9 +11,9 @@ ghost use Rattle.board.specs.Names.{Numbers, Reports, TicksAs, PricesAs}
 ghost use Rattle.board.specs.Inside.{WrongLength, Three, NamesPorts};
 use kinds::Answer;
 use kinds::Refusal;
+use price::Priced;
 use run::State;
 use run::Ticked;
-use price::Priced;
 
 fn number_of(answer: Answer) -> u32
     ensures { λ r. ⌜ r ≡ given (saidBy answer) ⌝ }

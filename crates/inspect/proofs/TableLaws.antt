@@ -2,10 +2,11 @@
 --   inspect-ascending    its numbers go up, so the first that applies is the lowest
 --   inspect-none         none applies exactly where none of 1 to 5 does, and the sheet passes
 --   inspects-by          an answer that gives the lowest of 1 to 9 is what the inspector promises
+--   passed-refused       what the inspector refuses shows no side
 --   inspects-right       of a sheet that is right, passed is
 --   inspects-unique      the inspector has one answer
 use Prim.Native.Nat.{ℕ}
-use mathlib.Core.Path.{_≡_, sym, ap, _∙_}
+use mathlib.Core.Path.{_≡_, refl, sym, ap, _∙_}
 use mathlib.Core.List.{List, _∷_}
 use mathlib.Core.Logic.{_↔_}
 use mathlib.Core.Option.{none}
@@ -14,19 +15,22 @@ use Rattle.kinds.specs.Edition.{Edition, sized?}
 use Rattle.kinds.specs.First.{Reason, firstOf, Ascending}
 use Rattle.kinds.specs.Refusal.{said}
 use Rattle.kinds.specs.declared.Answer.{Answer}
-use Rattle.kinds.specs.declared.Answer.the-variants.{Done}
+use Rattle.kinds.specs.declared.Answer.the-variants.{Done, Refused}
+use Rattle.kinds.specs.declared.Refusal.{Refusal}
 use Rattle.kinds.proofs.TruthLaws.{stable}
-use Rattle.kinds.proofs.AnswerLaws.{said-same}
+use Rattle.kinds.proofs.AnswerLaws.{not-both, said-same}
 use Rattle.kinds.proofs.FirstLaws.{first-none, first-both}
 use Rattle.order.specs.Table.{orderTable}
 use Rattle.order.proofs.TableLaws.{order-sound}
 use Rattle.sheet.specs.Layout.{wellFormed?}
 use Rattle.sheet.specs.Table.{brokenLayout, sheetLengths}
+use Rattle.maps.specs.Opened.{unopened}
+use Rattle.maps.specs.declared.Opened.{Opened}
 use Rattle.promise.specs.Series.{Right}
 use Rattle.promise.specs.Passes.{passTable, Passes}
 use Rattle.promise.proofs.ExactLaws.{exact}
 use Rattle.promise.proofs.BoundLaws.{read-stages}
-use Rattle.inspect.specs.Tool.{inspectTable, Inspectable, Inspects}
+use Rattle.inspect.specs.Tool.{inspectTable, Inspectable, Inspects, OpensPassed}
 
 module _ (e : Edition) (n k : ℕ) (C s : List ℕ) where
   pub inspect-ascending : Ascending (inspectTable e n k C s)
@@ -69,6 +73,15 @@ module _ {e : Edition} {n k : ℕ} {C s : List ℕ} where
     where
       passed : r ≡ Done → Inspectable e n k C s × Passes e n k C s
       passed done = inspect-none e n k C s .0 (sym gives ∙ ap said done)
+
+  pub passed-refused : {r : Opened} {a : Answer} {x : Refusal} → said a ≡ firstOf (inspectTable e n k C s) → a ≡ Refused x → r ≡ unopened x → OpensPassed e n k C s r
+  passed-refused gives is same =
+      rw same (record {
+        answer = inspects-by (ap said (sym is) ∙ gives);
+        write = λ d. not-both d refl;
+        read = λ d. not-both d refl;
+        refused = λ y f. (refl, refl);
+      })
 
   pub inspects-right : Inspectable e n k C s → Right e n k C s → Inspects e n k C s Done
   inspects-right whole right = inspects-by (sym (inspect-none e n k C s .1 (whole, whole-exact whole .1 right)))

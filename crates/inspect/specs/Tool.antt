@@ -3,6 +3,7 @@
 --   Inspectable e n k C s      none of 1 to 5 applies: sizes and lengths are right, C is an order, and s keeps the layout
 --   Inspects e n k C s r       the inspector: r is the lowest of 1 to 9 that applies, and done ("for the inspector, passed") where none does. What it passes is inspectable; and what is inspectable
 --                              it passes exactly when the sheet is right for the order. "Every passed sheet has at least k - rank P1 read stages"
+--   OpensPassed e n k C s r    the inspector, where r is its answer and the two sides, opened: of a sheet that is passed r shows both, of any other neither
 use Prim.Native.Nat.{ℕ, _+_, _≤_}
 use mathlib.Core.Path.{_≡_}
 use mathlib.Core.List.{List, _∷_, _++_}
@@ -12,14 +13,17 @@ use Rattle.kinds.specs.Edition.{Edition, Sized, sized?, sheetPlaces}
 use Rattle.kinds.specs.First.{Reason, firstOf}
 use Rattle.kinds.specs.Refusal.{said}
 use Rattle.kinds.specs.declared.Answer.{Answer}
-use Rattle.kinds.specs.declared.Answer.the-variants.{Done}
+use Rattle.kinds.specs.declared.Answer.the-variants.{Done, Refused}
+use Rattle.kinds.specs.declared.Refusal.{Refusal}
 use Rattle.span.specs.Scan.{rank}
 use Rattle.order.specs.Order.{Order}
 use Rattle.order.specs.Parts.{rowsP1}
 use Rattle.order.specs.Table.{orderTable}
-use Rattle.sheet.specs.Sheet.{readSide}
+use Rattle.sheet.specs.Sheet.{writeSide, readSide}
 use Rattle.sheet.specs.Layout.{WellFormed}
 use Rattle.sheet.specs.Table.{brokenLayout, sheetLengths}
+use Rattle.maps.specs.Opened.{Shows, closed}
+use Rattle.maps.specs.declared.Opened.{Opened}
 use Rattle.promise.specs.Series.{Right}
 use Rattle.promise.specs.Passes.{passTable}
 
@@ -37,3 +41,9 @@ pub record Inspects (e : Edition) (n k : ℕ) (C s : List ℕ) (r : Answer) : Ty
   pub inspectable : r ≡ Done → Inspectable e n k C s
   pub exact : Inspectable e n k C s → (r ≡ Done) ↔ Right e n k C s
   pub stages : r ≡ Done → k ≤ rank (rowsP1 k C) + length (readSide e n k s .stages)
+
+pub record OpensPassed (e : Edition) (n k : ℕ) (C s : List ℕ) (r : Opened) : Type 0 where
+  pub answer : Inspects e n k C s (r .answer)
+  pub write : r .answer ≡ Done → Shows n k (r .write) (writeSide e n k s)
+  pub read : r .answer ≡ Done → Shows n k (r .read) (readSide e n k s)
+  pub refused : (x : Refusal) → r .answer ≡ Refused x → (r .write ≡ closed) × (r .read ≡ closed)

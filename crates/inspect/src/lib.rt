@@ -1,30 +1,40 @@
 // The inspector: from an order and a sheet to a verdict (01, 'When a tool says no').
 ghost use Rattle.kinds.specs.Edition.{edition1};
-ghost use Rattle.inspect.specs.Tool.{Inspects};
+ghost use Rattle.inspect.specs.Tool.{Inspects, OpensPassed};
 ghost use Rattle.inspect.specs.Inside.{Comparable, Agrees, Judgeable, Judges};
 use kinds::Answer;
-use kinds::Port;
 use kinds::Refusal;
-use kinds::Tick;
 use maps::OpenSide;
+use maps::Opened;
 
 // Passed, or the lowest of 1 to 9 that applies.
 pub fn inspect(n: u32, k: u32, columns: &[u16], sheet: &[u16]) -> Answer
     ensures { λ r. ⌜ Inspects edition1 n k (now (columns .entry)) (now (sheet .entry)) r ⌝ }
 {
+    let opened = open_passed(n, k, columns, sheet);
+    opened.answer
+}
+
+// The inspector, which hands on the sides of a sheet that it passed.
+pub fn open_passed(n: u32, k: u32, columns: &[u16], sheet: &[u16]) -> Opened
+    ensures { λ r. ⌜ OpensPassed edition1 n k (now (columns .entry)) (now (sheet .entry)) r ⌝ }
+{
     let fits = sheet.len() == sheet::SHEET;
     let checked = order::check_with_k(n, k, columns, fits);
-    let is_order = kinds::is_done(checked);
-    if !is_order {
-        return checked;
+    if let Answer::Refused(refusal) = checked {
+        return maps::refused(refusal);
     }
     let opened = maps::open(n, k, sheet, true);
     let answer = opened.answer;
     let is_formed = kinds::is_done(answer);
     if !is_formed {
-        return answer;
+        return opened;
     }
-    judge(n, k, columns, opened.write, opened.read)
+    let verdict = judge(n, k, columns, opened.write, opened.read);
+    if let Answer::Refused(refusal) = verdict {
+        return maps::refused(refusal);
+    }
+    opened
 }
 
 // 6 to 9. A linear map of m bits is invertible exactly when its m columns are independent.
@@ -61,14 +71,11 @@ fn agree(n: u32, k: u32, columns: &[u16], cells: &[u16], read: OpenSide) -> bool
     requires { ⌜ Comparable n k (now columns) (now cells) ⌝ }
     ensures { λ r. ⌜ Agrees n k (now (columns .entry)) (now (cells .entry)) read r ⌝ }
 {
-    let ports = bits::two_to(k);
     let word_bits = n as usize;
     let mut j = 0;
     while j < word_bits {
-        let place = columns[j] as u32;
-        let tick = place / ports;
-        let port = place % ports;
-        let cell = read.cell(Tick(tick), Port(port));
+        let slot = switches::slot_of(columns[j] as u32, k);
+        let cell = read.cell(slot.tick, slot.port);
         if cells[j] != cell {
             return false;
         }

@@ -38,7 +38,7 @@ module _ (f : Stage → ℕ) (l : List ℕ) where
 
   pub total-more : (m : ℕ) → total f (stagesIn (m + 1) l) ≡ total f (stagesIn m l) + f (stageAt l m)
   unfolding total stagesIn
-  total-more m = rw add-one (total-append f (stagesIn m l) (stageAt l m ∷ []) ∙ omega arith)
+  total-more m = rw (add-one m) (total-append f (stagesIn m l) (stageAt l m ∷ []) ∙ omega arith)
 
 pub total-const : (b : ℕ) (l : List ℕ) (m : ℕ) → total (λ s. b) (stagesIn m l) ≡ m * b
 unfolding total stagesIn

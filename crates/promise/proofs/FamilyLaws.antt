@@ -119,7 +119,8 @@ module _ {n k : ℕ} (within : k ≤ n) {P f g : ℕ → ℕ → ℕ} (fits : (F
 
   running-first : Running 0 (comes-in 0) (goes-out 0) x
   running-first =
-      let held = held-fresh within (fits (goes-out 0) .places) fresh in
+      let held : Held n k (x .state) (x .memory) (f (comes-in 0)) (wordIn n S (comes-in 0)) (P (goes-out 0)) (f (goes-out 0)) (wordIn n S (goes-out 0)) =
+      held-fresh within (fits (goes-out 0) .places) fresh in
       record {
         counted = record { possible = held .possible; counted = rw (before-none S, zero-div (2 ^ n), fresh .nothing-coming) (omega arith) };
         held = held;

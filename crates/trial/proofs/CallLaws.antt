@@ -42,21 +42,26 @@ module _ {n k : ℕ} {s : List ℕ} (run : Runnable n k s) where
   series : Series k S
   series = one-frame-series n k (λ i. i) within (λ i h. omega (arith, pow-mono {i = n} {j = 10} (run .sized .frame .most)))
 
-  pub part-comes : {f : List ℕ} {at ports c : ℕ} → f ≡ inOrder (2 ^ n) (λ i. i) → at ≡ c * 2 ^ k → ports ≡ 2 ^ k → c < T → take (at + ports - at) (drop at f) ≡ callAt S c
-  part-comes {f} {at} {ports} {c} words from wide h =
-      let fits : (p : ℕ) → p < 2 ^ k → at + p < 2 ^ n = λ p l. omega (arith, word-lt within h l) in
-      let last = fits (2 ^ k - 1) (omega (arith, pow-pos k)) in
-      let count : length f ≡ 2 ^ n = ap length words ∙ in-order-length (2 ^ n) (λ i. i) in
-      let m = at + ports - at in
-      let tick : length (take m (drop at f)) ≡ 2 ^ k = omega (arith, length-take m (drop at f), length-drop at f, pow-pos k) in
-      ext-getD 0 _ _ (tick ∙ sym (came n k (λ i. i) c h)) (λ p b.
-      let l : p < 2 ^ k = rw tick at b in
-      getD-take m (drop at f) p 0 (omega arith)
-      ∙ getD-drop at f p 0
-      ∙ ap (λ (g : List ℕ). getD g (at + p) 0) words
-      ∙ in-order-at (2 ^ n) (λ i. i) 0 (at + p) (fits p l)
-      ∙ ap (λ (a : ℕ). a + p) from
-      ∙ sym (came-at n k (λ i. i) c p h l))
+  module _ {f : List ℕ} {at ports c : ℕ} (words : f ≡ inOrder (2 ^ n) (λ i. i)) (from : at ≡ c * 2 ^ k) (wide : ports ≡ 2 ^ k) (h : c < T) where
+    part-long : length (take (at + ports - at) (drop at f)) ≡ 2 ^ k
+    part-long =
+        let last = word-lt {p = 2 ^ k - 1} within h (omega (arith, pow-pos k)) in
+        let count : length f ≡ 2 ^ n = ap length words ∙ in-order-length (2 ^ n) (λ i. i) in
+        omega (arith, length-take (at + ports - at) (drop at f), length-drop at f, pow-pos k)
+
+    part-at : (p : ℕ) → p < 2 ^ k → getD (take (at + ports - at) (drop at f)) p 0 ≡ c * 2 ^ k + p
+    part-at p l =
+        getD-take (at + ports - at) (drop at f) p 0 (omega arith)
+        ∙ getD-drop at f p 0
+        ∙ ap (λ (x : List ℕ). getD x (at + p) 0) words
+        ∙ in-order-at (2 ^ n) (λ i. i) 0 (at + p) (omega (arith, word-lt within h l))
+        ∙ ap (λ (a : ℕ). a + p) from
+
+    pub part-comes : take (at + ports - at) (drop at f) ≡ callAt S c
+    part-comes =
+        ext-getD 0 (take (at + ports - at) (drop at f)) (callAt S c) (part-long ∙ sym (came n k (λ i. i) c h)) (λ p b.
+        let l : p < 2 ^ k = rw part-long at b in
+        part-at p l ∙ sym (came-at n k (λ i. i) c p h l))
 
   call-comes : {j : ℕ} → j < 2 * T → {st : State} {ws ms out : List ℕ} {a : Ticked} {m : Memory} {left : List ℕ} → Here n k s j st ws ms → length out ≡ 2 ^ k
       → Ticks edition1 n k s st (callAt S j) (record { words = ws; marks = ms }) out a m left → ComesOf (outcomeOn edition1 n k s (freshStand n k) S j) st out a m left

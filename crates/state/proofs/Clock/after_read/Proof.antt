@@ -1,8 +1,8 @@
--- `run::State::after_read` meets its contract.
+-- `state::Clock::after_read` meets its contract.
 use borrow.Author.Needs.{needs}
 use borrow.Author.Tests.{lt-ltb, le-ltb}
-use Rattle.run.proofs.State.after_read.Statement.{statement}
-use Rattle.run.proofs.State.after_read.Tie as tie
+use Rattle.state.proofs.Clock.after_read.Statement.{statement}
+use Rattle.state.proofs.Clock.after_read.Tie as tie
 
 add-r : tie.Need-add-r
 add-r c = search needs

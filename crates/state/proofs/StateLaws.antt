@@ -12,8 +12,8 @@ use mathlib.Core.Logic.{_≢_}
 use native.Mathlib.Decide.{ℕ-discrete, decLt}
 use native.Mathlib.Omega.{arith}
 use borrow.Author.Tests.{lt-ltb, le-ltb, eq-eqb, ne-eqb}
-use Rattle.run.specs.States.{Possible, reading, afterRead, afterWrite, turned, next}
-use Rattle.run.specs.declared.State.{State}
+use Rattle.state.specs.States.{Possible, reading, afterRead, afterWrite, turned, next}
+use Rattle.state.specs.declared.State.{State}
 
 module _ (T : ℕ) (st : State) where
   pub read-more : st .r < T → afterRead T st .r ≡ st .r + 1
@@ -22,23 +22,14 @@ module _ (T : ℕ) (st : State) where
   pub read-idle : T ≤ st .r → afterRead T st .r ≡ st .r
   read-idle idle = rw (le-ltb (st .r) T idle)
 
-  -- the read changes the reader alone
-  read-only : afterRead T st ≡ record { a = st .a; h = st .h; r = afterRead T st .r }
-  read-only = go (reading T st)
-    where
-      go : (b : Bool) → _≡_ {A = State} (cond b (record { a = st .a; h = st .h; r = st .r + 1 }) st)
-          (record { a = st .a; h = st .h; r = cond b (record { a = st .a; h = st .h; r = st .r + 1 }) st .r })
-      go true = refl
-      go false = refl
-
   pub next-blank : st .a < T → next T st [] ≡ record { a = st .a; h = st .h; r = afterRead T st .r }
-  next-blank part = rw (read-only, ne-eqb (st .a) T (omega arith))
+  next-blank part = rw (ne-eqb (st .a) T (omega arith))
 
   pub next-part : (w : ℕ) (ws : List ℕ) → st .a + 1 ≢ T → next T st (w ∷ ws) ≡ record { a = st .a + 1; h = st .h; r = afterRead T st .r }
-  next-part w ws part = rw (read-only, ne-eqb (st .a + 1) T part)
+  next-part w ws part = rw (ne-eqb (st .a + 1) T part)
 
   pub next-full : (w : ℕ) (ws : List ℕ) → st .a + 1 ≡ T → next T st (w ∷ ws) ≡ record { a = 0; h = 1 - st .h; r = 0 }
-  next-full w ws full = rw (read-only, eq-eqb (st .a + 1) T full)
+  next-full w ws full = rw (eq-eqb (st .a + 1) T full)
 
 module _ (T : ℕ) where
   after-read : (st : State) (ws : List ℕ) → Possible T st → st .a < st .r → Possible T (turned T (afterWrite st ws))

@@ -1,4 +1,4 @@
--- `run::banks_differ` meets its contract. Invariant: the bits of `seen` are the banks of the ports passed, of which no two want one bank.
+-- `faults::banks_differ` meets its contract. Invariant: the bits of `seen` are the banks of the ports passed, of which no two want one bank.
 use Prim.Native.Nat.{ℕ, _+_, _-_, _*_, _%_, _^_, _≤_, _<_}
 use mathlib.Core.Path.{_≡_, sym, ap, _∙_}
 use mathlib.Core.List.{List}
@@ -15,11 +15,10 @@ use Rattle.kinds.specs.Frame.{bankOf}
 use Rattle.kinds.proofs.TruthLaws.{says-no, says-yes}
 use Rattle.bits.specs.Parity.{bit}
 use Rattle.bits.proofs.ParityLaws.{bit-xor, bit-same, bit-other}
-use Rattle.run.specs.Faults.{WantOneBank, Clash}
-use Rattle.run.specs.Inside.{mostBanks}
-use Rattle.run.proofs.FaultLaws.{banks-counted, bank-masked}
-use Rattle.run.proofs.banks_differ.Statement.{statement}
-use Rattle.run.proofs.banks_differ.Tie as tie
+use Rattle.faults.specs.Faults.{WantOneBank, Clash}
+use Rattle.faults.specs.Inside.{mostBanks}
+use Rattle.faults.proofs.banks_differ.Statement.{statement}
+use Rattle.faults.proofs.banks_differ.Tie as tie
 
 abbrev bankAt : ℕ → List ℕ → ℕ → ℕ
 bankAt k cs p = bankOf k (getD cs p 0)
@@ -71,47 +70,47 @@ Inv-loop k cells mask seen₀ p₀ seen p = Passed k cells seen p
 abbrev μ-loop : tie.MeasureT-loop
 μ-loop k cells mask seen₀ p₀ seen p = length cells - p
 
-two-to-requires : tie.Need-two-to-requires Inv-loop μ-loop
-two-to-requires c κs = search needs
+bank-bits-requires : tie.Need-bank-bits-requires Inv-loop μ-loop
+bank-bits-requires c κs = search needs
 
-module _ (c : tie.After-two-to Inv-loop μ-loop) where
+module _ (c : tie.After-bank-bits Inv-loop μ-loop) where
   abbrev k : ℕ
   k = c .before .before .args .k
+
+  abbrev cells : List ℕ
+  cells = c .before .before .args .cells .now
 
   small : (x : ℕ) → bankOf k x < mostBanks
   small x = omega (arith, mod-lt x (pow-pos k), c .before .before .pre)
 
-  masked : (x : ℕ) → bitAnd x (c .two-to .result - 1) ≡ bankOf k x
-  masked = bank-masked (c .before .before .pre) (c .two-to .ensures)
-
-sub-mask : tie.Need-sub-mask Inv-loop μ-loop
-sub-mask c = omega (arith, banks-counted (c .before .before .pre) (c .two-to .ensures), pow-pos (k c))
+  masked : (p : ℕ) → bitAnd (getD cells p 0) (c .bank-bits .result) ≡ bankAt k cells p
+  masked p = c .bank-bits .ensures (getD cells p 0) (omega (arith, c .before .shared-slice-known .given p))
 
 loop-holds : tie.Need-loop-holds Inv-loop μ-loop
 loop-holds c = start _ _
 
-mul-t8 : tie.Need-mul-t8 Inv-loop μ-loop
-mul-t8 c = search needs
+mul-t7 : tie.Need-mul-t7 Inv-loop μ-loop
+mul-t7 c = search needs
 
-shared-slice-read-t11 : tie.Need-shared-slice-read-t11 Inv-loop μ-loop
-shared-slice-read-t11 c = search needs
+shared-slice-read-t10 : tie.Need-shared-slice-read-t10 Inv-loop μ-loop
+shared-slice-read-t10 c = search needs
 
 cast-if1 : tie.Need-cast-if1 Inv-loop μ-loop
 cast-if1 c = search needs
 
 shr-if1 : tie.Need-shr-if1 Inv-loop μ-loop
-shr-if1 c = let two = c .before .before .before .before in rw (masked two) (small two _)
+shr-if1 c = let loop = c .before .before .before in rw (masked (loop .before) (loop .loop .p)) (small (loop .before) _)
 
 returns : tie.Need-returns Inv-loop μ-loop
 returns c =
     let loop = c .before .before .before .before in
-    says-no (λ none. none (stop (loop .loop .inv) (masked (loop .before) _) (c .before .before .before .loop-test .taken) (c .if1 .taken)))
+    says-no (λ none. none (stop (loop .loop .inv) (masked (loop .before) (loop .loop .p)) (c .before .before .before .loop-test .taken) (c .if1 .taken)))
 
 cast-seen : tie.Need-cast-seen Inv-loop μ-loop
 cast-seen c = search needs
 
 shl-seen : tie.Need-shl-seen Inv-loop μ-loop
-shl-seen c = let two = c .before .before .before .before .before .before in rw (masked two) (small two _)
+shl-seen c = let loop = c .before .before .before .before .before in rw (masked (loop .before) (loop .loop .p)) (small (loop .before) _)
 
 add-p : tie.Need-add-p Inv-loop μ-loop
 add-p c = search needs
@@ -122,7 +121,7 @@ loop-less c = search needs
 loop-again : tie.Need-loop-again Inv-loop μ-loop
 loop-again c =
     let loop = c .before .before .before .before .before in
-    more (loop .loop .inv) (masked (loop .before) _) (small (loop .before) _) (c .before .if1 .left)
+    more (loop .loop .inv) (masked (loop .before) (loop .loop .p)) (small (loop .before) _) (c .before .if1 .left)
 
 returns-2 : tie.Need-returns-2 Inv-loop μ-loop
 returns-2 c = says-yes (done (c .before .loop .inv) (c .loop-test .left))
@@ -133,11 +132,10 @@ banks-differ-spec =
     (tie.spec
     Inv-loop
     μ-loop
-    two-to-requires
-    sub-mask
+    bank-bits-requires
     loop-holds
-    mul-t8
-    shared-slice-read-t11
+    mul-t7
+    shared-slice-read-t10
     cast-if1
     shr-if1
     returns

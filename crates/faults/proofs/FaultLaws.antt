@@ -1,6 +1,6 @@
 -- Two ports that want one bank.
---   banks-counted          where the banks are few, the number of them that the code has is 2^k
---   bank-masked            and masking a cell's number with one less gives its bank
+--   Different cs           the cells of cs are different
+--   apart                  cells that don't clash are
 --   LowestPair k cs p q    "the first such pair, lowest port first (smallest first port, then smallest second)": p and q want one bank,
 --                          no two ports that do have a smaller first, and none with the first port p have a smaller second
 --   first-pair-law         where there is a clash, the ports that a refusal names are the first such pair
@@ -8,29 +8,19 @@
 --   first-pair-named       and its ports are those that a refusal names
 --   pair-nowhere           the first pair is nowhere exactly when there is no clash
 --   pair-between           it is between two ports exactly when they are the first such pair
-use Prim.Native.Nat.{ℕ, _-_, _^_, _<_, _≤_}
-use mathlib.Core.Path.{_≡_, refl, sym, ap, _∙_}
+use Prim.Native.Nat.{ℕ, _<_, _≤_}
+use mathlib.Core.Path.{_≡_, refl, sym, ap}
 use mathlib.Core.List.{List}
-use mathlib.Core.Logic.{_↔_}
+use mathlib.Core.Logic.{_≢_, _↔_}
 use native.Mathlib.Omega.{arith}
-use lib.Bits.{bitAnd, and-mask}
-use lib.ListN.{length}
-use lib.Pow.{pow-mono}
+use lib.ListN.{length, getD}
 use Rattle.kinds.specs.Frame.{bankOf}
 use Rattle.kinds.specs.Search.{someBelow, found}
 use Rattle.kinds.specs.declared.Port.{Port}
 use Rattle.kinds.proofs.SearchLaws.{found-has, found-first, found-least}
-use Rattle.bits.specs.Word.{TwoTo}
-use Rattle.run.specs.Faults.{WantOneBank, wantOneBank?, laterPort?, Clash, clash?, firstPort, secondPort}
-use Rattle.run.specs.Inside.{mostBanks, pairFrom, firstPair}
-use Rattle.run.specs.declared.Pair.the-variants.{Nowhere, Between}
-
-module _ {k r : ℕ} (few : 2 ^ k ≤ mostBanks) (two : TwoTo k r) where
-  pub banks-counted : r ≡ 2 ^ k
-  banks-counted = let low : ¬ (32 ≤ k) = λ high. omega (arith, pow-mono high) in two .fits (omega arith)
-
-  pub bank-masked : (x : ℕ) → bitAnd x (r - 1) ≡ bankOf k x
-  bank-masked x = ap (λ (m : ℕ). bitAnd x (m - 1)) banks-counted ∙ and-mask x k
+use Rattle.faults.specs.Faults.{WantOneBank, wantOneBank?, laterPort?, Clash, clash?, firstPort, secondPort}
+use Rattle.faults.specs.Inside.{pairFrom, firstPair}
+use Rattle.faults.specs.declared.Pair.the-variants.{Nowhere, Between}
 
 pub record LowestPair (k : ℕ) (cs : List ℕ) (p q : ℕ) : Type 0 where
   pub inside : q < length cs
@@ -40,6 +30,12 @@ pub record LowestPair (k : ℕ) (cs : List ℕ) (p q : ℕ) : Type 0 where
 
 not-above : {P : ℕ → Type 0} (P? : (i : ℕ) → Dec (P i)) (n i : ℕ) → P i → found (someBelow P? n) ≤ i
 not-above P? n i p = let high : ¬ (i < found (someBelow P? n)) = λ low. found-first P? n i low p in omega arith
+
+abbrev pub Different : List ℕ → Type 0
+Different cs = (p q : ℕ) → p < q → q < length cs → getD cs p 0 ≢ getD cs q 0
+
+pub apart : (k : ℕ) (cs : List ℕ) → ¬ Clash k cs → Different cs
+apart k cs none p q l h same = none (p, omega arith, (q, h, (l, ap (bankOf k) same)))
 
 module _ {k : ℕ} {cs : List ℕ} where
   pub first-pair-law : Clash k cs → LowestPair k cs (firstPort k cs) (secondPort k cs)

@@ -1,4 +1,4 @@
--- `run::find_pair` meets its contract. Outer invariant: no pair is found, and no port passed has a later one that wants its bank.
+-- `faults::find_pair` meets its contract. Outer invariant: no pair is found, and no port passed has a later one that wants its bank.
 -- Inner: nor does a port before q want the bank of port p.
 use Prim.Native.Nat.{ℕ, _+_, _-_, _≤_, _<_}
 use mathlib.Core.Path.{_≡_, refl, sym, _∙_}
@@ -9,15 +9,14 @@ use borrow.Author.Count.{below-none, below-more}
 use borrow.Author.Needs.{needs}
 use lib.Bits.{bitAnd}
 use lib.ListN.{length, getD}
-use lib.Pow.{pow-pos}
 use Rattle.kinds.specs.Frame.{bankOf}
-use Rattle.run.specs.Faults.{WantOneBank, LaterPort}
-use Rattle.run.specs.Inside.{firstPair}
-use Rattle.run.specs.declared.Pair.{Pair}
-use Rattle.run.specs.declared.Pair.the-variants.{Nowhere, Between}
-use Rattle.run.proofs.FaultLaws.{banks-counted, bank-masked, pair-nowhere, pair-between}
-use Rattle.run.proofs.find_pair.Statement.{statement}
-use Rattle.run.proofs.find_pair.Tie as tie
+use Rattle.faults.specs.Faults.{WantOneBank, LaterPort}
+use Rattle.faults.specs.Inside.{firstPair}
+use Rattle.faults.specs.declared.Pair.{Pair}
+use Rattle.faults.specs.declared.Pair.the-variants.{Nowhere, Between}
+use Rattle.faults.proofs.FaultLaws.{pair-nowhere, pair-between}
+use Rattle.faults.proofs.find_pair.Statement.{statement}
+use Rattle.faults.proofs.find_pair.Tie as tie
 
 record Passed (k : ℕ) (cs : List ℕ) (pair : Pair) (p : ℕ) : Type 0 where
   nowhere : pair ≡ Nowhere
@@ -65,27 +64,24 @@ Inv-ports k cells mask pair₀ p₀ pair p = Passed k cells pair p
 abbrev μ-ports : tie.MeasureT-ports
 μ-ports k cells mask pair₀ p₀ pair p = length cells - p
 
-two-to-requires : tie.Need-two-to-requires Inv-loop μ-loop Inv-ports μ-ports
-two-to-requires c κs = search needs
+bank-bits-requires : tie.Need-bank-bits-requires Inv-loop μ-loop Inv-ports μ-ports
+bank-bits-requires c κs = search needs
 
-module _ (c : tie.After-two-to Inv-loop μ-loop Inv-ports μ-ports) where
-  abbrev k : ℕ
-  k = c .before .before .args .k
+module _ (c : tie.After-bank-bits Inv-loop μ-loop Inv-ports μ-ports) where
+  abbrev cells : List ℕ
+  cells = c .before .before .args .cells .now
 
-  masked : (x : ℕ) → bitAnd x (c .two-to .result - 1) ≡ bankOf k x
-  masked = bank-masked (c .before .before .pre .0) (c .two-to .ensures)
-
-sub-mask : tie.Need-sub-mask Inv-loop μ-loop Inv-ports μ-ports
-sub-mask c = omega (arith, banks-counted (c .before .before .pre .0) (c .two-to .ensures), pow-pos (k c))
+  masked : (p : ℕ) → bitAnd (getD cells p 0) (c .bank-bits .result) ≡ bankOf (c .before .before .args .k) (getD cells p 0)
+  masked p = c .bank-bits .ensures (getD cells p 0) (omega (arith, c .before .shared-slice-known .given p))
 
 ports-holds : tie.Need-ports-holds Inv-loop μ-loop Inv-ports μ-ports
 ports-holds c = start _ _
 
-mul-t10 : tie.Need-mul-t10 Inv-loop μ-loop Inv-ports μ-ports
-mul-t10 c = search needs
+mul-t9 : tie.Need-mul-t9 Inv-loop μ-loop Inv-ports μ-ports
+mul-t9 c = search needs
 
-shared-slice-read-t13 : tie.Need-shared-slice-read-t13 Inv-loop μ-loop Inv-ports μ-ports
-shared-slice-read-t13 c = search needs
+shared-slice-read-t12 : tie.Need-shared-slice-read-t12 Inv-loop μ-loop Inv-ports μ-ports
+shared-slice-read-t12 c = search needs
 
 add-q : tie.Need-add-q Inv-loop μ-loop Inv-ports μ-ports
 add-q c = search needs
@@ -93,17 +89,17 @@ add-q c = search needs
 loop-holds : tie.Need-loop-holds Inv-loop μ-loop Inv-ports μ-ports
 loop-holds c = begin (c .before .before .ports .inv)
 
-mul-t15 : tie.Need-mul-t15 Inv-loop μ-loop Inv-ports μ-ports
-mul-t15 c = search needs
+mul-t14 : tie.Need-mul-t14 Inv-loop μ-loop Inv-ports μ-ports
+mul-t14 c = search needs
 
-shared-slice-read-t18 : tie.Need-shared-slice-read-t18 Inv-loop μ-loop Inv-ports μ-ports
-shared-slice-read-t18 c = search needs
+shared-slice-read-t17 : tie.Need-shared-slice-read-t17 Inv-loop μ-loop Inv-ports μ-ports
+shared-slice-read-t17 c = search needs
 
-cast-t20 : tie.Need-cast-t20 Inv-loop μ-loop Inv-ports μ-ports
-cast-t20 c = search needs
+cast-t19 : tie.Need-cast-t19 Inv-loop μ-loop Inv-ports μ-ports
+cast-t19 c = search needs
 
-cast-t22 : tie.Need-cast-t22 Inv-loop μ-loop Inv-ports μ-ports
-cast-t22 c = search needs
+cast-t21 : tie.Need-cast-t21 Inv-loop μ-loop Inv-ports μ-ports
+cast-t21 c = search needs
 
 add-q-2 : tie.Need-add-q-2 Inv-loop μ-loop Inv-ports μ-ports
 add-q-2 c = search needs
@@ -114,8 +110,9 @@ loop-less c = search needs
 loop-again : tie.Need-loop-again Inv-loop μ-loop Inv-ports μ-ports
 loop-again c =
     let loop = c .before .before .before .before .before in
-    let bank = masked (loop .before .before .before .before) in
-    more (loop .loop .inv) (λ same. c .if1 .left (bank _ ∙ same ∙ sym (bank _)))
+    let ports = loop .before .before .before in
+    let bank = masked (ports .before) in
+    more (loop .loop .inv) (λ same. c .if1 .left (bank (ports .ports .p) ∙ same ∙ sym (bank (loop .loop .q))))
 
 add-p : tie.Need-add-p Inv-loop μ-loop Inv-ports μ-ports
 add-p c = search needs
@@ -132,8 +129,9 @@ returns c = done (c .before .ports .inv) (c .ports-test .left)
 returns-2 : tie.Need-returns-2 Inv-loop μ-loop Inv-ports μ-ports
 returns-2 c =
     let loop = c .before .before .before .before .before in
-    let bank = masked (loop .before .before .before .before) in
-    stop (loop .loop .inv) (c .before .before .before .before .loop-test .taken) (sym (bank _) ∙ c .if1 .taken ∙ bank _)
+    let ports = loop .before .before .before in
+    let bank = masked (ports .before) in
+    stop (loop .loop .inv) (c .before .before .before .before .loop-test .taken) (sym (bank (ports .ports .p)) ∙ c .if1 .taken ∙ bank (loop .loop .q))
 
 pub find-pair-spec : {M : Type 1} → statement M
 find-pair-spec =
@@ -143,17 +141,16 @@ find-pair-spec =
     μ-loop
     Inv-ports
     μ-ports
-    two-to-requires
-    sub-mask
+    bank-bits-requires
     ports-holds
-    mul-t10
-    shared-slice-read-t13
+    mul-t9
+    shared-slice-read-t12
     add-q
     loop-holds
-    mul-t15
-    shared-slice-read-t18
-    cast-t20
-    cast-t22
+    mul-t14
+    shared-slice-read-t17
+    cast-t19
+    cast-t21
     add-q-2
     loop-less
     loop-again

@@ -9,23 +9,31 @@
 --   clash F k cs                11 and 13: two written, or two read, words want one bank; F is the refusal that names the pair
 --   SomeFilled l cs             some cell of cs is filled, where l is the marks
 --   SomeEmpty l cs              some cell of cs is empty
+--   SomeMarked b l cs           the mark of some cell of cs says filled, or says empty, as b asks
 --   overwrite l cs              12: a cell to be written is filled
 --   emptyRead l cs              14: a cell to be read is empty
---   faults k writes reads l     11 to 14, of the cells that a call writes and of those that it reads, by port, where l is the marks as they came. A call that brings no words writes
---                               no cells, and one with nothing to read reads none: then nothing of that side applies
-use Prim.Native.Nat.{ℕ, _<_}
+--   faults k writes reads w l   11 to 14, of the cells that a call writes and of those that it reads, by port, where l is the marks as they came, and w those that 12 is judged on.
+--                               A call that brings no words writes no cells, and one with nothing to read reads none: then nothing of that side applies
+--   judgedOn after reads l      the marks that 12 is judged on: those after this call's read, where after says so, else those that came. The run of a sheet takes those that came
+--   mostCells                   the most cells whose ports have numbers of 32 bits
+--   Countable writes reads      there are no more cells than that
+--   countable? writes reads     whether that is so
+--   faultTable after k writes reads l      2 where there are more, and then 11 to 14
+use Prim.Native.Nat.{ℕ, _^_, _<_, _≤_}
 use mathlib.Core.Path.{_≡_}
+use mathlib.Core.Bool.{Bool, cond}
 use mathlib.Core.List.{List, [], _∷_}
-use native.Mathlib.Decide.{decLt, ℕ-discrete}
+use native.Mathlib.Decide.{decLt, decLe, ℕ-discrete}
 use lib.ListN.{length, getD}
-use Rattle.kinds.specs.Decided.{both, opposite}
+use Rattle.kinds.specs.Answers.{Says}
+use Rattle.kinds.specs.Decided.{both, through, opposite}
 use Rattle.kinds.specs.Frame.{bankOf}
 use Rattle.kinds.specs.Search.{someBelow, found}
-use Rattle.kinds.specs.First.{Reason}
+use Rattle.kinds.specs.First.{Reason, unless}
 use Rattle.kinds.specs.declared.Port.{Port}
 use Rattle.kinds.specs.declared.Refusal.{Refusal}
-use Rattle.kinds.specs.declared.Refusal.the-variants.{WriteClash, Overwrite, ReadClash, EmptyRead}
-use Rattle.run.specs.Memory.{Filled, filled?}
+use Rattle.kinds.specs.declared.Refusal.the-variants.{Length, WriteClash, Overwrite, ReadClash, EmptyRead}
+use Rattle.faults.specs.Marks.{Filled, filled?, marked}
 
 abbrev pub WantOneBank : ℕ → List ℕ → ℕ → ℕ → Type 0
 WantOneBank k cs p q = (p < q) × (bankOf k (getD cs p 0) ≡ bankOf k (getD cs q 0))
@@ -60,6 +68,9 @@ SomeFilled l cs = (p : ℕ) × (p < length cs) × Filled l (getD cs p 0)
 abbrev pub SomeEmpty : List ℕ → List ℕ → Type 0
 SomeEmpty l cs = (p : ℕ) × (p < length cs) × ¬ Filled l (getD cs p 0)
 
+abbrev pub SomeMarked : Bool → List ℕ → List ℕ → Type 0
+SomeMarked b l cs = (p : ℕ) × (p < length cs) × Says b (Filled l (getD cs p 0))
+
 abbrev pub overwrite : List ℕ → List ℕ → Reason
 overwrite l cs = record { refusal = Overwrite; applies = SomeFilled l cs; decided = someBelow (λ p. filled? l (getD cs p 0)) (length cs) }
 
@@ -70,5 +81,23 @@ emptyRead l cs = record {
   decided = someBelow (λ p. opposite (filled? l (getD cs p 0))) (length cs);
 }
 
-abbrev pub faults : ℕ → List ℕ → List ℕ → List ℕ → List Reason
-faults k writes reads l = clash WriteClash k writes ∷ overwrite l writes ∷ clash ReadClash k reads ∷ emptyRead l reads ∷ []
+abbrev pub faults : ℕ → List ℕ → List ℕ → List ℕ → List ℕ → List Reason
+faults k writes reads w l = clash WriteClash k writes ∷ overwrite w writes ∷ clash ReadClash k reads ∷ emptyRead l reads ∷ []
+
+abbrev pub judgedOn : Bool → List ℕ → List ℕ → List ℕ
+judgedOn after reads l = cond after (marked 0 reads l) l
+
+abbrev pub mostCells : ℕ
+mostCells = 2 ^ 32
+
+pub record Countable (writes reads : List ℕ) : Type 0 where
+  pub written : length writes ≤ mostCells
+  pub read : length reads ≤ mostCells
+
+unfoldable pub countable? : (writes reads : List ℕ) → Dec (Countable writes reads)
+unfolding decLe
+countable? writes reads =
+    through (λ (w, r). record { written = w; read = r }, λ c. (c .written, c .read)) (both (decLe (length writes) mostCells) (decLe (length reads) mostCells))
+
+abbrev pub faultTable : Bool → ℕ → List ℕ → List ℕ → List ℕ → List Reason
+faultTable after k writes reads l = unless Length (countable? writes reads) ∷ faults k writes reads (judgedOn after reads l) l

@@ -1,8 +1,5 @@
 -- Marks and words that are put in places.
---   put-other       a place that nothing was put in keeps its content
---   Different cs    the places of cs are different
---   put-in          where they are, each has the number that was put in it
---   apart           cells that don't clash are different
+--   put-in          where places are different, each has the number that was put in it
 --   zero-marks      of zero marks none says filled
 --   served-filled   a call that writes empty cells and reads filled ones adds as many filled marks as it writes, and takes away as many as it reads
 use Prim.Native.Nat.{ℕ, zero, suc, _+_, _*_, _<_}
@@ -14,22 +11,15 @@ use native.Mathlib.Nat.{suc-mul}
 use native.Mathlib.Omega.{arith}
 use lib.ListN.{length, getD, set, length-set}
 use lib.Seq.{getD-set-same, getD-set-other}
-use Rattle.kinds.specs.Frame.{bankOf}
 use Rattle.kinds.proofs.TruthLaws.{stable}
 use Rattle.bits.specs.Image.{AllBelow}
-use Rattle.sheet.specs.Layout.{AllZero}
-use Rattle.run.specs.Memory.{Memory, filledMarks, put, marked, Access, served}
-use Rattle.run.specs.Faults.{Clash, SomeFilled, SomeEmpty}
-use Rattle.run.proofs.MemoryLaws.{put-length}
+use Rattle.faults.specs.Marks.{put, marked}
+use Rattle.faults.specs.Faults.{SomeFilled, SomeEmpty}
+use Rattle.faults.proofs.MarkLaws.{put-length, put-other}
+use Rattle.faults.proofs.FaultLaws.{Different}
+use Rattle.memory.specs.Memory.{Memory, filledMarks, Access, served}
 
-pub put-other : (cs vs l : List ℕ) (y : ℕ) → ((p : ℕ) → p < length cs → getD cs p 0 ≢ y) → getD (put cs vs l) y 0 ≡ getD l y 0
-unfolding put
-put-other [] vs l y other = refl
-put-other (x ∷ cs) [] l y other = refl
-put-other (x ∷ cs) (v ∷ vs) l y other =
-    put-other cs vs (set l x v) y (λ p h. other (suc p) (omega arith)) ∙ getD-set-other l x y v 0 (λ e. other 0 (omega arith) (sym e))
-
-pub zero-marks : (l : List ℕ) → AllZero l → filledMarks l ≡ 0
+pub zero-marks : (l : List ℕ) → ((j : ℕ) → j < length l → getD l j 0 ≡ 0) → filledMarks l ≡ 0
 unfolding filledMarks
 zero-marks [] zeros = refl
 zero-marks (zero ∷ l) zeros = zero-marks l (λ j h. zeros (suc j) (omega arith))
@@ -45,9 +35,6 @@ set-filled (suc u ∷ l) zero (suc v) h = refl
 set-filled (zero ∷ l) (suc x) v h = set-filled l x v (omega arith)
 set-filled (suc u ∷ l) (suc x) v h = omega (arith, set-filled l x v (omega arith))
 
-abbrev pub Different : List ℕ → Type 0
-Different cs = (p q : ℕ) → p < q → q < length cs → getD cs p 0 ≢ getD cs q 0
-
 pub put-in : (cs vs l : List ℕ) → Different cs → AllBelow (length l) cs → length vs ≡ length cs → (p : ℕ) → p < length cs
     → getD (put cs vs l) (getD cs p 0) 0 ≡ getD vs p 0
 unfolding put
@@ -58,9 +45,6 @@ put-in (x ∷ cs) (v ∷ vs) l different inside each zero h =
 put-in (x ∷ cs) (v ∷ vs) l different inside each (suc p) h =
     put-in cs vs (set l x v) (λ i j b e. different (suc i) (suc j) (omega arith) (omega arith)) (λ i b. rw length-set (inside (suc i) (omega arith))) (omega arith) p
     (omega arith)
-
-pub apart : (k : ℕ) (cs : List ℕ) → ¬ Clash k cs → Different cs
-apart k cs none p q l h same = none (p, omega arith, (q, h, (l, ap (bankOf k) same)))
 
 marks-changed : (u v : ℕ) (cs l : List ℕ) → Different cs → AllBelow (length l) cs
     → ((p : ℕ) → p < length cs → filledMarks (getD l (getD cs p 0) 0 ∷ []) ≡ u)

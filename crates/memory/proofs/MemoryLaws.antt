@@ -1,8 +1,6 @@
 -- Numbers that go to places of a list.
 --   same-memory            memories of the same words and marks are the same
 --   words-at               the words in cells, one by one
---   put-nil                where there are no places nothing is put
---   put-length             no place is gained or lost
 --   Putting cs vs l₀ l p   l is l₀ after the first p numbers went: those that are left make of l what all of them make of l₀. There is a number for each place
 --   put-start, put-more, put-done      before the first; after one more; after the last
 --   Marking v cs l₀ l p    the same, where each number is v
@@ -14,7 +12,9 @@ use native.Mathlib.Numerals.{add-one}
 use native.Mathlib.Omega.{arith}
 use lib.ListN.{length, getD, set, drop, replicate, length-set, length-replicate, getD-replicate, drop-of-length-le}
 use lib.Seq.{drop-cons}
-use Rattle.run.specs.Memory.{Memory, put, wordsAt}
+use Rattle.faults.specs.Marks.{put}
+use Rattle.faults.proofs.MarkLaws.{put-nil, put-cons}
+use Rattle.memory.specs.Memory.{Memory, wordsAt}
 
 pub same-memory : {v w l r : List ℕ} → v ≡ w → l ≡ r → _≡_ {A = Memory} (record { words = v; marks = l }) (record { words = w; marks = r })
 same-memory e f = cc
@@ -23,20 +23,6 @@ pub words-at : (cs l : List ℕ) (p : ℕ) → p < length cs → getD (wordsAt c
 words-at [] l p h = absurd (omega arith)
 words-at (x ∷ cs) l zero h = refl
 words-at (x ∷ cs) l (suc p) h = words-at cs l p (omega arith)
-
-pub put-nil : (vs l : List ℕ) → put [] vs l ≡ l
-unfolding put
-put-nil vs l = refl
-
-put-cons : (x v : ℕ) (cs vs l : List ℕ) → put (x ∷ cs) (v ∷ vs) l ≡ put cs vs (set l x v)
-unfolding put
-put-cons x v cs vs l = refl
-
-pub put-length : (cs vs l : List ℕ) → length (put cs vs l) ≡ length l
-unfolding put
-put-length [] vs l = refl
-put-length (x ∷ cs) [] l = refl
-put-length (x ∷ cs) (v ∷ vs) l = put-length cs vs (set l x v) ∙ length-set l x v
 
 put-step : (cs vs l : List ℕ) (p : ℕ) → p < length cs → p < length vs
     → put (drop p cs) (drop p vs) l ≡ put (drop (p + 1) cs) (drop (p + 1) vs) (set l (getD cs p 0) (getD vs p 0))

@@ -1,6 +1,5 @@
 -- The clock of a run.
---   holds-yes, holds-no      what is taken where a decided statement holds, and where it doesn't
---   full-last                a possible clock is full after the call exactly when the call completes the frame
+--   full-last      a possible clock is full after the call exactly when the call completes the frame
 use Prim.Native.Nat.{ℕ, _+_}
 use mathlib.Core.Path.{_≡_, refl}
 use mathlib.Core.Bool.{Bool, true, false}
@@ -8,17 +7,8 @@ use native.Mathlib.Omega.{arith}
 use borrow.Author.Tests.{eqb-true, eq-eqb, ne-eqb}
 use Rattle.kinds.specs.Answers.{Says}
 use Rattle.kinds.proofs.TruthLaws.{false≢true, says-no}
-use Rattle.state.specs.Clocks.{PossibleClock, readOn, counted, full, Completes, ifHolds}
+use Rattle.state.specs.Clocks.{PossibleClock, readOn, counted, full, Completes}
 use Rattle.state.specs.declared.Clock.{Clock}
-
-module _ {P A : Type 0} where
-  pub holds-yes : (d : Dec P) (x y : A) → P → ifHolds d x y ≡ x
-  holds-yes (yes p) x y h = refl
-  holds-yes (no n) x y h = absurd (n h)
-
-  pub holds-no : (d : Dec P) (x y : A) → ¬ P → ifHolds d x y ≡ y
-  holds-no (yes p) x y n = absurd (n p)
-  holds-no (no m) x y n = refl
 
 pub full-last : (T : ℕ) (c : Clock) (came : Bool) → PossibleClock T c → Says (full T (counted (readOn T c) came)) (Completes T c came)
 full-last T c true ok = (λ e. record { possible = ok; words = refl; last = eqb-true (c .a + 1) T e }, λ last. eq-eqb (c .a + 1) T (last .last))

@@ -9,7 +9,6 @@
 --   startedAnew T c         "when a reaches 2^t, a becomes 0, .. r becomes 0"
 --   nextClock T c came      the clock after the call
 --   Completes T c came      the clock is possible, and the words that come are the last tick of the frame
---   ifHolds d x y           x where the statement that d decides holds, else y
 use Prim.Native.Nat.{ℕ, _+_, _<_, _≤_}
 use mathlib.Core.Path.{_≡_}
 use mathlib.Core.Bool.{Bool, true, cond}
@@ -51,7 +50,3 @@ pub record Completes (T : ℕ) (c : Clock) (came : Bool) : Type 0 where
   pub possible : PossibleClock T c
   pub words : came ≡ true
   pub last : c .a + 1 ≡ T
-
-abbrev pub ifHolds : {P A : Type 0} → Dec P → A → A → A
-ifHolds (yes p) x y = x
-ifHolds (no n) x y = y

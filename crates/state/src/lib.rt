@@ -1,7 +1,8 @@
 // The state of a run: its clock, and the half that words are written to.
 ghost use mathlib.Core.Path.{_≡_};
 ghost use Rattle.kinds.specs.Answers.{Says};
-ghost use Rattle.state.specs.Clocks.{PossibleClock, possibleClock?, readOn, Completes, nextClock, ifHolds};
+ghost use Rattle.kinds.specs.Decided.{ifHolds};
+ghost use Rattle.state.specs.Clocks.{PossibleClock, possibleClock?, readOn, Completes, nextClock};
 ghost use Rattle.state.specs.States.{Possible, possible?, next as nextState};
 
 // What every run counts: a, the ticks of the incoming frame so far, and r, the next tick to read, 2^t when idle.

@@ -1,14 +1,48 @@
--- `run::serve` meets its contract. Nothing is changed before the first fault was looked for, and past it none applies.
-use mathlib.Core.Path.{refl, sym, ap, _∙_}
+-- `memory::serve` meets its contract. Nothing is changed before the first fault was looked for, and past it none applies.
+use Prim.Native.Nat.{ℕ}
+use mathlib.Core.Path.{_≡_, refl, sym, ap, _∙_}
+use mathlib.Core.Bool.{Bool}
+use mathlib.Core.List.{List}
 use borrow.Author.Needs.{needs}
 use borrow.Author.Tests.{not-true, not-false}
+use native.Mathlib.Decide.{decLe, ℕ-discrete}
 use lib.ListN.{length}
-use Rattle.kinds.proofs.TruthLaws.{denied}
-use Rattle.kinds.proofs.AnswerLaws.{refuses, does}
-use Rattle.run.specs.Memory.{marked}
-use Rattle.run.proofs.MemoryLaws.{same-memory, put-length}
-use Rattle.run.proofs.serve.Statement.{statement}
-use Rattle.run.proofs.serve.Tie as tie
+use Rattle.kinds.specs.First.{firstOf}
+use Rattle.kinds.proofs.TruthLaws.{holds-yes, denied}
+use Rattle.kinds.proofs.FirstLaws.{first-take, first-skip}
+use Rattle.kinds.proofs.AnswerLaws.{refused-by, refuses, does}
+use Rattle.faults.specs.Marks.{marked}
+use Rattle.faults.specs.Faults.{faultTable}
+use Rattle.memory.specs.Memory.{Memory, Access}
+use Rattle.memory.specs.Serving.{Fitting, serveTable}
+use Rattle.memory.proofs.MemoryLaws.{same-memory}
+use Rattle.memory.proofs.serve.Statement.{statement}
+use Rattle.memory.proofs.serve.Tie as tie
+
+module _ (c : tie.After-right-lengths) where
+  abbrev start : tie.Start
+  start = c .before .before .before .before .before .before .before
+
+  abbrev after : Bool
+  after = start .args .after
+
+  abbrev k : ℕ
+  k = start .args .k
+
+  abbrev A : Access
+  A = record { writes = start .args .writes .now; words = start .args .came .now; reads = start .args .reads .now }
+
+  abbrev m : Memory
+  m = record { words = start .args .words .now; marks = start .args .marks .now }
+
+  abbrev out : List ℕ
+  out = start .args .out .now
+
+right-lengths-requires : tie.Need-right-lengths-requires
+right-lengths-requires c κs = search needs
+
+returns : tie.Need-returns
+returns c = refused-by (first-take _ _ (denied (c .before .right-lengths .ensures) (not-true _ (c .if1 .taken)))) (refl, refl)
 
 first-fault-requires : tie.Need-first-fault-requires
 first-fault-requires c κs = search needs
@@ -19,18 +53,27 @@ is-done-requires c κs = search needs
 same-length : tie.Need-same-length
 same-length c = search needs
 
-returns : tie.Need-returns
-returns c = refuses (denied (c .before .is-done .ensures) (not-true _ (c .if1 .taken))) (c .before .before .first-fault .ensures) (refl, refl, refl)
+-- past the lengths
+module _ (c : tie.Else1) where
+  abbrev at : tie.After-right-lengths
+  at = c .before
+
+  fitting : Fitting (length (A at .writes)) (length (A at .words)) (length (A at .reads)) (length (out at))
+  fitting = at .right-lengths .ensures .0 (not-false _ (c .if1 .left))
+
+  past-2 : firstOf (serveTable (after at) (k at) (A at) (m at) (out at)) ≡ firstOf (faultTable (after at) (k at) (A at .writes) (A at .reads) (m at .marks))
+  past-2 = first-skip _ _ (λ wrong. wrong fitting)
+
+returns-2 : tie.Need-returns-2
+returns-2 c =
+    let called = c .before .before in
+    refuses (denied (c .before .is-done .ensures) (not-true _ (c .if2 .taken))) (called .first-fault .ensures ∙ sym (past-2 (called .before .before))) (refl, refl)
 
 take-out-requires : tie.Need-take-out-requires
 take-out-requires c κs = search needs
 
 store-requires : tie.Need-store-requires
-store-requires c κs =
-    let taken = c .before .before .before .before .before .before in
-    let ready = taken .before .before .before .before .before .before .before .before .before .before .before .before .before .before .pre in
-    let same = ap length (taken .take-out .ensures .1) ∙ put-length _ _ _ in
-    (record { few = ready .written .few; inside = λ p h. rw same (ready .written .inside p h) }, (ready .whole ∙ sym same, ready .a-word-each))
+store-requires c κs = search needs
 
 same-length-2 : tie.Need-same-length-2
 same-length-2 c = search needs
@@ -41,27 +84,36 @@ same-length-3 c = search needs
 same-length-4 : tie.Need-same-length-4
 same-length-4 c = search needs
 
-returns-2 : tie.Need-returns-2
-returns-2 c =
+returns-3 : tie.Need-returns-3
+returns-3 c =
     let stored = c .before .before .before .before in
     let taken = stored .before .before .before .before .before .before .before in
     let tested = taken .before .before .before .before in
-    does (tested .before .is-done .ensures .0 (not-false _ (tested .if1 .left))) (tested .before .before .first-fault .ensures) (
-      taken .take-out .ensures .0,
-      same-memory (stored .store .ensures .0) (stored .store .ensures .1 ∙ ap (marked 1 _) (taken .take-out .ensures .1)),
+    let called = tested .before .before in
+    let passed = called .before .before in
+    let A = A (at passed) in
+    let fit = fitting passed in
+    let room = decLe (length (A .reads)) (length (out (at passed))) in
+    let each = ℕ-discrete (length (A .words)) (length (A .writes)) in
+    does (tested .before .is-done .ensures .0 (not-false _ (tested .if2 .left))) (called .first-fault .ensures ∙ sym (past-2 passed)) (
+      same-memory (stored .store .ensures .0 ∙ holds-yes each _ _ (fit .a-word-each))
+      (stored .store .ensures .1 ∙ holds-yes each _ _ (fit .a-word-each) ∙ ap (marked 1 (A .writes)) (taken .take-out .ensures .1 ∙ holds-yes room _ _ (fit .room))),
+      taken .take-out .ensures .0 ∙ holds-yes room _ _ (fit .room),
     )
 
 pub serve-spec : {M : Type 1} → statement M
 serve-spec =
     tie.close
     (tie.spec
+    right-lengths-requires
+    returns
     first-fault-requires
     is-done-requires
     same-length
-    returns
+    returns-2
     take-out-requires
     store-requires
     same-length-2
     same-length-3
     same-length-4
-    returns-2)
+    returns-3)

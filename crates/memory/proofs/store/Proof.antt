@@ -1,14 +1,16 @@
--- `run::store` meets its contract. The invariant: p words went to their cells, and p marks.
+-- `memory::store` meets its contract. The invariant: p words went to their cells, and p marks.
 use Prim.Native.Nat.{ℕ, _+_, _-_, _<_}
-use mathlib.Core.Path.{_≡_}
+use mathlib.Core.Path.{_≡_, sym, _∙_}
 use mathlib.Core.List.{List}
+use native.Mathlib.Decide.{ℕ-discrete}
 use native.Mathlib.Omega.{arith}
 use borrow.Author.Needs.{needs}
 use mir.Facts.{fits-widen}
 use lib.ListN.{length, getD, set}
-use Rattle.run.proofs.MemoryLaws.{Putting, Marking, put-start, put-more, put-done, mark-start, mark-more}
-use Rattle.run.proofs.store.Statement.{statement}
-use Rattle.run.proofs.store.Tie as tie
+use Rattle.kinds.proofs.TruthLaws.{holds-yes, holds-no}
+use Rattle.memory.proofs.MemoryLaws.{Putting, Marking, put-start, put-more, put-done, mark-start, mark-more}
+use Rattle.memory.proofs.store.Statement.{statement}
+use Rattle.memory.proofs.store.Tie as tie
 
 record Storing (cells came words₀ marks₀ words marks : List ℕ) (p : ℕ) : Type 0 where
   stores : Putting cells came words₀ words p
@@ -17,9 +19,9 @@ record Storing (cells came words₀ marks₀ words marks : List ℕ) (p : ℕ) :
 start : {cells came words marks : List ℕ} → length came ≡ length cells → Storing cells came words marks words marks 0
 start e = record { stores = put-start e; fills = mark-start 1 }
 
-more : {cells came words₀ marks₀ words marks : List ℕ} {p : ℕ} → Storing cells came words₀ marks₀ words marks p → p < length cells
-    → Storing cells came words₀ marks₀ (set words (getD cells p 0) (getD came p 0)) (set marks (getD cells p 0) 1) (p + 1)
-more i h = record { stores = put-more (i .stores) h; fills = mark-more 1 (i .fills) h }
+more : {cells came words₀ marks₀ words marks words' marks' : List ℕ} {p : ℕ} → Storing cells came words₀ marks₀ words marks p → p < length cells
+    → words' ≡ set words (getD cells p 0) (getD came p 0) → marks' ≡ set marks (getD cells p 0) 1 → Storing cells came words₀ marks₀ words' marks' (p + 1)
+more i h w m = rw (w, m) (record { stores = put-more (i .stores) h; fills = mark-more 1 (i .fills) h })
 
 abbrev Inv-loop : tie.InvT-loop
 Inv-loop cells came words₀ marks₀ p₀ words marks p = Storing cells came words₀ marks₀ words marks p
@@ -27,12 +29,14 @@ Inv-loop cells came words₀ marks₀ p₀ words marks p = Storing cells came wo
 abbrev μ-loop : tie.MeasureT-loop
 μ-loop cells came words₀ marks₀ p₀ words marks p = length cells - p
 
-loop-holds : tie.Need-loop-holds Inv-loop μ-loop
-loop-holds c = start (c .pre .1 .1)
+returns : tie.Need-returns Inv-loop μ-loop
+returns c =
+    let args = c .before .before .before .before .before .args in
+    let each = ℕ-discrete (length (args .came .now)) (length (args .cells .now)) in
+    (sym (holds-no each _ _ (c .if1 .taken)), sym (holds-no each _ _ (c .if1 .taken)))
 
--- the cell of this turn is one of the memory's
-reached : (c : tie.In-loop Inv-loop μ-loop) → getD (c .before .before .args .cells .now) (c .before .loop .p) 0 < length (c .before .before .args .marks .now)
-reached c = c .before .before .pre .0 .inside (c .before .loop .p) (c .loop-test .taken)
+loop-holds : tie.Need-loop-holds Inv-loop μ-loop
+loop-holds c = start (omega (arith, c .if1 .left))
 
 mul-at : tie.Need-mul-at Inv-loop μ-loop
 mul-at c = search needs
@@ -41,22 +45,19 @@ shared-slice-read-at : tie.Need-shared-slice-read-at Inv-loop μ-loop
 shared-slice-read-at c = search needs
 
 cast-at : tie.Need-cast-at Inv-loop μ-loop
-cast-at c = fits-widen tt (c .shared-slice-known .given _)
+cast-at c = fits-widen tt (c .shared-slice-known3 .given _)
 
-mul-words : tie.Need-mul-words Inv-loop μ-loop
-mul-words c = search needs
+mul-put-word : tie.Need-mul-put-word Inv-loop μ-loop
+mul-put-word c = search needs
 
-shared-slice-read-words : tie.Need-shared-slice-read-words Inv-loop μ-loop
-shared-slice-read-words c = search needs
+shared-slice-read-put-word : tie.Need-shared-slice-read-put-word Inv-loop μ-loop
+shared-slice-read-put-word c = search needs
 
-mul-words-2 : tie.Need-mul-words-2 Inv-loop μ-loop
-mul-words-2 c = omega (arith, reached (c .before .before))
+put-word-requires : tie.Need-put-word-requires Inv-loop μ-loop
+put-word-requires c κs = search needs
 
-slice-write-words : tie.Need-slice-write-words Inv-loop μ-loop
-slice-write-words c = omega (arith, reached (c .before .before))
-
-slice-write-marks : tie.Need-slice-write-marks Inv-loop μ-loop
-slice-write-marks c = omega (arith, reached (c .before .before))
+put-mark-requires : tie.Need-put-mark-requires Inv-loop μ-loop
+put-mark-requires c κs = search needs
 
 add-p : tie.Need-add-p Inv-loop μ-loop
 add-p c = search needs
@@ -65,7 +66,11 @@ loop-less : tie.Need-loop-less Inv-loop μ-loop
 loop-less c = search needs
 
 loop-again : tie.Need-loop-again Inv-loop μ-loop
-loop-again c = more (c .before .before .before .loop .inv) (c .before .before .loop-test .taken)
+loop-again c =
+    let marked = c .before .before in
+    let put = marked .before .before .before .before in
+    let turn = put .before .before .before .before in
+    more (turn .before .loop .inv) (turn .loop-test .taken) (put .put-word .ensures) (marked .put-mark .ensures)
 
 same-length : tie.Need-same-length Inv-loop μ-loop
 same-length c = c .before .loop .inv .stores .same
@@ -73,8 +78,14 @@ same-length c = c .before .loop .inv .stores .same
 same-length-2 : tie.Need-same-length-2 Inv-loop μ-loop
 same-length-2 c = c .before .loop .inv .fills .same
 
-returns : tie.Need-returns Inv-loop μ-loop
-returns c = (put-done (c .before .loop .inv .stores) (c .loop-test .left), put-done (c .before .loop .inv .fills) (c .loop-test .left))
+returns-2 : tie.Need-returns-2 Inv-loop μ-loop
+returns-2 c =
+    let args = c .before .before .before .before .before .before .before .args in
+    let each = ℕ-discrete (length (args .came .now)) (length (args .cells .now)) in
+    let one-each = c .before .loop .inv .stores .one-each in (
+      put-done (c .before .loop .inv .stores) (c .loop-test .left) ∙ sym (holds-yes each _ _ one-each),
+      put-done (c .before .loop .inv .fills) (c .loop-test .left) ∙ sym (holds-yes each _ _ one-each),
+    )
 
 pub store-spec : {M : Type 1} → statement M
 store-spec =
@@ -82,18 +93,18 @@ store-spec =
     (tie.spec
     Inv-loop
     μ-loop
+    returns
     loop-holds
     mul-at
     shared-slice-read-at
     cast-at
-    mul-words
-    shared-slice-read-words
-    mul-words-2
-    slice-write-words
-    slice-write-marks
+    mul-put-word
+    shared-slice-read-put-word
+    put-word-requires
+    put-mark-requires
     add-p
     loop-less
     loop-again
     same-length
     same-length-2
-    returns)
+    returns-2)

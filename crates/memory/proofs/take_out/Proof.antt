@@ -1,7 +1,8 @@
--- `run::take_out` meets its contract. The invariant: out begins with the words of the first p cells and is else as it came, and p marks are cleared.
+-- `memory::take_out` meets its contract. The invariant: out begins with the words of the first p cells and is else as it came, and p marks are cleared.
 use Prim.Native.Nat.{ℕ, _+_, _-_, _≤_, _<_}
-use mathlib.Core.Path.{_≡_, refl, _∙_}
+use mathlib.Core.Path.{_≡_, refl, sym, _∙_}
 use mathlib.Core.List.{List, _++_}
+use native.Mathlib.Decide.{decLe}
 use native.Mathlib.Nat.{zero-add}
 use native.Mathlib.Numerals.{add-one}
 use native.Mathlib.Omega.{arith}
@@ -9,10 +10,12 @@ use borrow.Author.Needs.{needs}
 use mir.Facts.{fits-widen}
 use lib.ListN.{length, getD, set, take, drop, length-set, length-map, List·getD-map}
 use lib.Seq.{paste-suc, take-length}
-use Rattle.run.specs.Memory.{wordsAt, onto}
-use Rattle.run.proofs.MemoryLaws.{Marking, put-done, mark-start, mark-more}
-use Rattle.run.proofs.take_out.Statement.{statement}
-use Rattle.run.proofs.take_out.Tie as tie
+use Rattle.kinds.specs.Answers.{onto}
+use Rattle.kinds.proofs.TruthLaws.{holds-yes, holds-no}
+use Rattle.memory.specs.Memory.{wordsAt}
+use Rattle.memory.proofs.MemoryLaws.{Marking, put-done, mark-start, mark-more}
+use Rattle.memory.proofs.take_out.Statement.{statement}
+use Rattle.memory.proofs.take_out.Tie as tie
 
 record Taking (cells out₀ words marks₀ out marks : List ℕ) (p : ℕ) : Type 0 where
   within : p ≤ length cells
@@ -31,8 +34,8 @@ module _ {cells out₀ words marks₀ out marks : List ℕ} {p : ℕ} (i : Takin
   as-many : length all ≡ length cells
   as-many = length-map cells (λ x. getD words x 0)
 
-  more : p < length cells → Taking cells out₀ words marks₀ (set out p (getD words (getD cells p 0) 0)) (set marks (getD cells p 0) 0) (p + 1)
-  more h = record {
+  onward : p < length cells → Taking cells out₀ words marks₀ (set out p (getD words (getD cells p 0) 0)) (set marks (getD cells p 0) 0) (p + 1)
+  onward h = record {
     within = omega arith;
     room = i .room;
     same = length-set out p (getD words (getD cells p 0) 0) ∙ i .same;
@@ -41,6 +44,10 @@ module _ {cells out₀ words marks₀ out marks : List ℕ} {p : ℕ} (i : Takin
         (simp zero-add at (paste-suc out₀ 0 all p (getD words 0 0) (omega (arith, i .room)) (omega (arith, as-many))));
     clears = mark-more 0 (i .clears) h;
   }
+
+  more : {word : ℕ} {marks' : List ℕ} → p < length cells → word ≡ getD words (getD cells p 0) 0 → marks' ≡ set marks (getD cells p 0) 0
+      → Taking cells out₀ words marks₀ (set out p word) marks' (p + 1)
+  more h w m = rw (w, m) (onward h)
 
   done : length cells ≤ p → out ≡ onto all out₀
   done h = let e : p ≡ length all = omega (arith, i .within, as-many) in i .front ∙ rw (e, take-length all)
@@ -51,12 +58,15 @@ Inv-loop cells out₀ words marks₀ p₀ out marks p = Taking cells out₀ word
 abbrev μ-loop : tie.MeasureT-loop
 μ-loop cells out₀ words marks₀ p₀ out marks p = length cells - p
 
-loop-holds : tie.Need-loop-holds Inv-loop μ-loop
-loop-holds c = start (c .pre .1 .1)
+returns : tie.Need-returns Inv-loop μ-loop
+returns c =
+    let args = c .before .before .before .before .before .args in
+    let room = decLe (length (args .cells .now)) (length (args .out .now)) in
+    let short : ¬ (length (args .cells .now) ≤ length (args .out .now)) = λ few. omega (arith, few, c .if1 .taken) in
+    (sym (holds-no room _ _ short), sym (holds-no room _ _ short))
 
--- the cell of this turn is one of the memory's
-reached : (c : tie.In-loop Inv-loop μ-loop) → getD (c .before .before .args .cells .now) (c .before .loop .p) 0 < length (c .before .before .args .marks .now)
-reached c = c .before .before .pre .0 .inside (c .before .loop .p) (c .loop-test .taken)
+loop-holds : tie.Need-loop-holds Inv-loop μ-loop
+loop-holds c = start (c .if1 .left)
 
 mul-at : tie.Need-mul-at Inv-loop μ-loop
 mul-at c = search needs
@@ -65,22 +75,19 @@ shared-slice-read-at : tie.Need-shared-slice-read-at Inv-loop μ-loop
 shared-slice-read-at c = search needs
 
 cast-at : tie.Need-cast-at Inv-loop μ-loop
-cast-at c = fits-widen tt (c .shared-slice-known .given _)
+cast-at c = fits-widen tt (c .shared-slice-known3 .given _)
+
+word-at-requires : tie.Need-word-at-requires Inv-loop μ-loop
+word-at-requires c κs = search needs
 
 mul-out : tie.Need-mul-out Inv-loop μ-loop
-mul-out c = omega (arith, reached (c .before))
-
-shared-slice-read-out : tie.Need-shared-slice-read-out Inv-loop μ-loop
-shared-slice-read-out c = omega (arith, reached (c .before .before))
-
-mul-out-2 : tie.Need-mul-out-2 Inv-loop μ-loop
-mul-out-2 c = search needs
+mul-out c = search needs
 
 slice-write-out : tie.Need-slice-write-out Inv-loop μ-loop
 slice-write-out c = search needs
 
-slice-write-marks : tie.Need-slice-write-marks Inv-loop μ-loop
-slice-write-marks c = omega (arith, reached (c .before .before))
+put-mark-requires : tie.Need-put-mark-requires Inv-loop μ-loop
+put-mark-requires c κs = search needs
 
 add-p : tie.Need-add-p Inv-loop μ-loop
 add-p c = search needs
@@ -89,7 +96,11 @@ loop-less : tie.Need-loop-less Inv-loop μ-loop
 loop-less c = search needs
 
 loop-again : tie.Need-loop-again Inv-loop μ-loop
-loop-again c = more (c .before .before .before .loop .inv) (c .before .before .loop-test .taken)
+loop-again c =
+    let marked = c .before .before in
+    let word = marked .before .before in
+    let turn = word .before .before in
+    more (turn .before .loop .inv) (turn .loop-test .taken) (word .word-at .ensures) (marked .put-mark .ensures)
 
 same-length : tie.Need-same-length Inv-loop μ-loop
 same-length c = c .before .loop .inv .same
@@ -97,8 +108,14 @@ same-length c = c .before .loop .inv .same
 same-length-2 : tie.Need-same-length-2 Inv-loop μ-loop
 same-length-2 c = c .before .loop .inv .clears .same
 
-returns : tie.Need-returns Inv-loop μ-loop
-returns c = (done (c .before .loop .inv) (c .loop-test .left), put-done (c .before .loop .inv .clears) (c .loop-test .left))
+returns-2 : tie.Need-returns-2 Inv-loop μ-loop
+returns-2 c =
+    let args = c .before .before .before .before .before .before .before .args in
+    let room = decLe (length (args .cells .now)) (length (args .out .now)) in
+    let enough = c .before .loop .inv .room in (
+      done (c .before .loop .inv) (c .loop-test .left) ∙ sym (holds-yes room _ _ enough),
+      put-done (c .before .loop .inv .clears) (c .loop-test .left) ∙ sym (holds-yes room _ _ enough),
+    )
 
 pub take-out-spec : {M : Type 1} → statement M
 take-out-spec =
@@ -106,18 +123,18 @@ take-out-spec =
     (tie.spec
     Inv-loop
     μ-loop
+    returns
     loop-holds
     mul-at
     shared-slice-read-at
     cast-at
+    word-at-requires
     mul-out
-    shared-slice-read-out
-    mul-out-2
     slice-write-out
-    slice-write-marks
+    put-mark-requires
     add-p
     loop-less
     loop-again
     same-length
     same-length-2
-    returns)
+    returns-2)

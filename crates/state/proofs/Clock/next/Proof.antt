@@ -7,10 +7,10 @@ use borrow.Author.Needs.{needs}
 use borrow.Author.Tests.{eq-eqb, ne-eqb, not-true, not-false}
 use native.Mathlib.Nat.{ne-of-lt}
 use native.Mathlib.Omega.{arith}
-use Rattle.kinds.proofs.TruthLaws.{denied}
-use Rattle.state.specs.Clocks.{PossibleClock, possibleClock?, counted, startedAnew, nextClock, ifHolds}
+use Rattle.kinds.specs.Decided.{ifHolds}
+use Rattle.kinds.proofs.TruthLaws.{holds-yes, holds-no, denied}
+use Rattle.state.specs.Clocks.{PossibleClock, possibleClock?, counted, startedAnew, nextClock}
 use Rattle.state.specs.declared.Clock.{Clock}
-use Rattle.state.proofs.ClockLaws.{holds-yes, holds-no}
 use Rattle.state.proofs.Clock.next.Statement.{statement}
 use Rattle.state.proofs.Clock.next.Tie as tie
 

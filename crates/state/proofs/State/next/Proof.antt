@@ -9,12 +9,13 @@ use native.Mathlib.Omega.{arith}
 use lib.Dec.{eqb}
 use lib.ListN.{length}
 use Rattle.kinds.specs.Answers.{Says}
-use Rattle.kinds.proofs.TruthLaws.{says-same, denied}
-use Rattle.state.specs.Clocks.{possibleClock?, readOn, counted, full, nextClock, ifHolds}
+use Rattle.kinds.specs.Decided.{ifHolds}
+use Rattle.kinds.proofs.TruthLaws.{holds-yes, holds-no, says-same, denied}
+use Rattle.state.specs.Clocks.{possibleClock?, readOn, counted, full, nextClock}
 use Rattle.state.specs.States.{clockOf, Possible, possible?, came, next as nextState}
 use Rattle.state.specs.declared.Clock.{Clock}
 use Rattle.state.specs.declared.State.{State}
-use Rattle.state.proofs.ClockLaws.{holds-yes, holds-no, full-last}
+use Rattle.state.proofs.ClockLaws.{full-last}
 use Rattle.state.proofs.State.next.Statement.{statement}
 use Rattle.state.proofs.State.next.Tie as tie
 

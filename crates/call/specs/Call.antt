@@ -9,7 +9,7 @@
 --   carriedOut n k f g st ws m  what comes of it where nothing is refused
 --   refused x st m              what comes of it where the refusal x is given: state and memory as they came, and nothing handed out
 --   outcome o n k f g st ws m   what comes of it where the refusal o is given, or none is
---   call t n k f g st ws m      a call: the first that applies of the reasons of t and then of 11 to 14, and what comes of it
+--   call t n k f g st ws m      a call: the first that applies of the reasons of t and then of 11 to 14, and what comes of it. 12 is judged on the marks as they came
 use Prim.Native.Nat.{ℕ, _+_, _-_, _*_, _^_}
 use mathlib.Core.Bool.{Bool, false, cond}
 use mathlib.Core.List.{List, [], _∷_, _++_}
@@ -17,10 +17,10 @@ use mathlib.Core.Option.{Option, none, some}
 use Rattle.kinds.specs.Frame.{ticks, wordAt, inOrder}
 use Rattle.kinds.specs.First.{Reason, firstOf}
 use Rattle.kinds.specs.declared.Refusal.{Refusal}
-use Rattle.run.specs.Memory.{Memory, Access, wordsAt, served}
-use Rattle.run.specs.Faults.{faults}
-use Rattle.run.specs.States.{reading, next}
-use Rattle.run.specs.declared.State.{State}
+use Rattle.memory.specs.Memory.{Memory, Access, wordsAt, served}
+use Rattle.faults.specs.Faults.{faults}
+use Rattle.state.specs.States.{reading, next}
+use Rattle.state.specs.declared.State.{State}
 
 abbrev pub placeIn : ℕ → ℕ → ℕ → ℕ
 placeIn n h x = h * 2 ^ n + x
@@ -62,4 +62,4 @@ outcome none n k f g st ws m = carriedOut n k f g st ws m
 outcome (some x) n k f g st ws m = refused x st m
 
 abbrev pub call : List Reason → ℕ → ℕ → (ℕ → ℕ) → (ℕ → ℕ) → State → List ℕ → Memory → Outcome
-call t n k f g st ws m = outcome (firstOf (t ++ faults k (writesOf n k f st ws) (readsOf n k g st) (m .marks))) n k f g st ws m
+call t n k f g st ws m = outcome (firstOf (t ++ faults k (writesOf n k f st ws) (readsOf n k g st) (m .marks) (m .marks))) n k f g st ws m

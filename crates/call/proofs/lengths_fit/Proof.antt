@@ -1,4 +1,4 @@
--- `run::lengths_fit` meets its contract. No length of 64 bits is 2^65 or more.
+-- `call::lengths_fit` meets its contract. No length of 64 bits is 2^65 or more.
 use Prim.Native.Nat.{ℕ, zero, suc, _+_, _^_}
 use mathlib.Core.Path.{_≡_, refl, sym, _∙_}
 use mathlib.Core.List.{[], _∷_}
@@ -9,9 +9,9 @@ use native.Mathlib.Omega.{arith}
 use lib.Pow.{pow-mono}
 use Rattle.kinds.specs.Reasons.{RightLengths}
 use Rattle.kinds.proofs.TruthLaws.{says-no, says-yes, denied}
-use Rattle.run.specs.Tool.{rightTick}
-use Rattle.run.proofs.lengths_fit.Statement.{statement}
-use Rattle.run.proofs.lengths_fit.Tie as tie
+use Rattle.call.specs.Tool.{rightTick}
+use Rattle.call.proofs.lengths_fit.Statement.{statement}
+use Rattle.call.proofs.lengths_fit.Tie as tie
 
 blank : (k l : ℕ) → l ≡ 0 → l ≡ rightTick k l
 blank k zero e = refl

@@ -1,4 +1,4 @@
--- `run::places_of` meets its contract. The invariant: the first p places are those of the first p cells that were listed.
+-- `call::places_of` meets its contract. The invariant: the first p places are those of the first p cells that were listed.
 use Prim.Native.Nat.{ℕ, _+_, _-_, _^_, _≤_, _<_}
 use mathlib.Core.Path.{_≡_, refl, ap, _∙_}
 use mathlib.Core.List.{List, _++_}
@@ -14,10 +14,10 @@ use Rattle.kinds.proofs.FrameLaws.{in-order-at, in-order-is}
 use Rattle.maps.specs.Cells.{cellAt}
 use Rattle.maps.specs.Opened.{ListsCells}
 use Rattle.maps.specs.declared.OpenSide.{OpenSide}
-use Rattle.run.specs.Inside.{mostPorts, ListsPlaces}
-use Rattle.run.proofs.PartLaws.{part-length, part-back}
-use Rattle.run.proofs.places_of.Statement.{statement}
-use Rattle.run.proofs.places_of.Tie as tie
+use Rattle.call.specs.Inside.{mostPorts, ListsPlaces}
+use Rattle.kinds.proofs.PartLaws.{part-length, part-back}
+use Rattle.call.proofs.places_of.Statement.{statement}
+use Rattle.call.proofs.places_of.Tie as tie
 
 record Placing (base : ℕ) (places₀ listed places : List ℕ) (p : ℕ) : Type 0 where
   all : length listed ≡ length places₀

@@ -1,6 +1,6 @@
--- `run::words_leaving` meets its contract.
-use Rattle.run.proofs.words_leaving.Statement.{statement}
-use Rattle.run.proofs.words_leaving.Tie as tie
+-- `call::words_leaving` meets its contract.
+use Rattle.call.proofs.words_leaving.Statement.{statement}
+use Rattle.call.proofs.words_leaving.Tie as tie
 
 returns : tie.Need-returns
 returns c = rw (c .if1 .taken)

@@ -15,9 +15,9 @@ use Rattle.kinds.specs.declared.Answer.{Answer}
 use Rattle.sheet.specs.Price.{refusalOf as refusalOfPrice}
 use Rattle.sheet.specs.declared.Priced.{Priced}
 use Rattle.sheet.proofs.TableLaws.{prices-unique}
-use Rattle.run.specs.Memory.{Memory}
-use Rattle.run.specs.Tool.{refusalOf, stateAfter}
-use Rattle.run.specs.declared.Ticked.{Ticked}
+use Rattle.memory.specs.Memory.{Memory}
+use Rattle.call.specs.Tool.{refusalOf, stateAfter}
+use Rattle.call.specs.declared.Ticked.{Ticked}
 use Rattle.run.proofs.ToolLaws.{ticks-unique}
 use Rattle.board.specs.Names.{Numbers, Besides, stateIn, placesOf, saidAfter, TicksAs, sumsAfter, PricesAs}
 

@@ -11,8 +11,8 @@ ghost use Rattle.board.specs.Names.{Numbers, Reports, TicksAs, PricesAs}
 ghost use Rattle.board.specs.Inside.{WrongLength, Three, NamesPorts};
 use kinds::Answer;
 use kinds::Refusal;
-use run::State;
-use run::Ticked;
+use state::State;
+use call::Ticked;
 use sheet::Priced;
 
 fn number_of(answer: Answer) -> u32

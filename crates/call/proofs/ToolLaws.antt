@@ -1,13 +1,14 @@
 -- What a call answers.
 --   comes-refused     how a refusal is what comes of a call: its table gives it, and everything is as it came
+--   comes-checked     so is one that a check gives, which goes by the reasons before 11 to 14
 --   comes-done        how an answer is where the table gives none
---   comes-past        where the reasons that come before 11 to 14 give none, the same comes of a call without them
+--   comes-past        where neither of two tables gives a reason before 11 to 14, the same comes of a call by either
 --   SoundCall e n k st came out words marks      neither sizes, lengths nor state are wrong
 --   call-sound        none of 1, 2 and 10 applies exactly when that is so
 --   serving-refuses, serving-does      where that is so, what serving the cells that a call writes and reads answers and leaves is what comes of the call
 --   comes-unique      a call has one answer, and leaves one memory and one out buffer
 use Prim.Native.Nat.{ℕ, zero, suc, _^_, _≤_}
-use mathlib.Core.Path.{_≡_, refl, sym, _∙_}
+use mathlib.Core.Path.{_≡_, refl, sym, ap, _∙_}
 use mathlib.Core.Bool.{Bool, false}
 use mathlib.Core.List.{List, [], _++_}
 use mathlib.Core.Logic.{_↔_}
@@ -21,10 +22,11 @@ use Rattle.kinds.specs.Frame.{ticks}
 use Rattle.kinds.specs.First.{Reason, firstOf}
 use Rattle.kinds.specs.Refusal.{said}
 use Rattle.kinds.specs.declared.Answer.{Answer}
+use Rattle.kinds.specs.declared.Answer.the-variants as Answer
 use Rattle.kinds.specs.declared.Refusal.{Refusal}
 use Rattle.kinds.specs.Reasons.{RightLengths, rightLengths?}
 use Rattle.kinds.proofs.TruthLaws.{stable}
-use Rattle.kinds.proofs.FirstLaws.{none-some, first-skip, first-append, first-none}
+use Rattle.kinds.proofs.FirstLaws.{none-some, first-before, first-skip, first-append, first-none}
 use Rattle.memory.specs.Memory.{Memory, Access, wordsAt, served}
 use Rattle.memory.specs.Serving.{serveTable, Serves}
 use Rattle.faults.specs.Faults.{faults}
@@ -54,8 +56,12 @@ module _ (t : List Reason) (n k : ℕ) (f g : ℕ → ℕ) (st : State) (ws : Li
       comes-by (call-done t n k f g st ws m (call-given t n k f g st ws m ∙ given))
       (record { refusal = refl; state = state; handed = handed; memory = memory; buffer = buffer })
 
-  pub comes-past : {a : Ticked} → firstOf t ≡ none → ComesOf (call [] n k f g st ws m) st out a m' out' → ComesOf (call t n k f g st ws m) st out a m' out'
-  comes-past given = comes-by (call-past t n k f g st ws m given)
+  pub comes-past : (u : List Reason) {a : Ticked} → firstOf t ≡ none → firstOf u ≡ none → ComesOf (call u n k f g st ws m) st out a m' out' → ComesOf (call t n k f g st ws m) st out a m' out'
+  comes-past u given none-given = comes-by (call-past t n k f g st ws m given ∙ sym (call-past u n k f g st ws m none-given))
+
+pub comes-checked : (t : List Reason) (n k : ℕ) (f g : ℕ → ℕ) (st : State) (ws : List ℕ) (m : Memory) (out : List ℕ) (r : Answer) {x : Refusal} → said r ≡ firstOf t → r ≡ Answer.Refused x
+    → ComesOf (call t n k f g st ws m) st out (Refused x) m out
+comes-checked t n k f g st ws m out r given is = comes-refused t n k f g st ws m out (first-before t _ (sym given ∙ ap said is)) refl refl
 
 same-answer : (st : State) (a b : Ticked) → refusalOf a ≡ refusalOf b → stateAfter st a ≡ stateAfter st b → handedOut a ≡ handedOut b → a ≡ b
 same-answer st (Done p h) (Done q i) r s t = cc

@@ -18,7 +18,7 @@ use Rattle.order.specs.Order.{place}
 use Rattle.sheet.specs.Sheet.{stagesIn}
 use Rattle.sheet.proofs.Cases.{reversal}
 use Rattle.maps.specs.Cells.{afterStages, M, N}
-use Rattle.run.specs.Memory.{put}
+use Rattle.faults.specs.Marks.{put}
 use Rattle.promise.specs.Series.{wordIn, dueCall, duePort, Stand, standing, outcomeOn}
 use Rattle.promise.specs.Passes.{passTable}
 

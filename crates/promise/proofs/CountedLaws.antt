@@ -17,11 +17,11 @@ use lib.Pow.{pow-pos, high}
 use Rattle.kinds.specs.Frame.{tickBits, ticks}
 use Rattle.kinds.proofs.FrameLaws.{frame-whole}
 use Rattle.sheet.specs.Layout.{AllZero}
-use Rattle.run.specs.Memory.{Memory}
-use Rattle.run.specs.States.{Possible, afterRead, next}
-use Rattle.run.specs.Tool.{rightTick}
-use Rattle.run.specs.declared.State.{State}
-use Rattle.run.proofs.StateLaws.{next-blank, next-part, next-full, next-possible}
+use Rattle.memory.specs.Memory.{Memory}
+use Rattle.state.specs.States.{Possible, afterRead, next}
+use Rattle.call.specs.Tool.{rightTick}
+use Rattle.state.specs.declared.State.{State}
+use Rattle.state.proofs.StateLaws.{next-blank, next-part, next-full, next-possible}
 use Rattle.promise.specs.Series.{Words32, IsCall, callAt, wordsBefore, Stand, Fresh, incoming}
 use Rattle.promise.proofs.SeriesLaws.{call-count, before-more}
 
@@ -80,8 +80,8 @@ module _ {n k : ℕ} (within : k ≤ n) {S : List (List ℕ)} {j : ℕ} {st : St
     where
       go : (ws : List ℕ) → callAt S j ≡ ws → (Stays n k S j st ⊎ Turns n k S j st) × Counted n k S (suc j) after
       go [] e =
-          let state = ap (next T st) e ∙ next-blank T st (now .possible .incoming) in
-          let (frame, then) = counted-by (incoming n S j) (st .a) _ _ state (omega (arith, before-more S j reach, ap length e, now .counted)) (now .possible .incoming) in
+          let state = ap (next T st) e ∙ next-blank T st (now .possible .clock .incoming) in
+          let (frame, then) = counted-by (incoming n S j) (st .a) _ _ state (omega (arith, before-more S j reach, ap length e, now .counted)) (now .possible .clock .incoming) in
           (inl (record { frame = frame; reader = rw state; part = λ (some, _). omega (arith, ap length e) }), then)
       go (w ∷ ws) e =
           let brings : length (callAt S j) ≡ 2 ^ k = call-count (callAt S j) is ∙ ap (λ (l : List ℕ). rightTick k (length l)) e in
@@ -93,7 +93,7 @@ module _ {n k : ℕ} (within : k ≤ n) {S : List (List ℕ)} {j : ℕ} {st : St
                 (inr (record { frame = frame; reader = rw state; full = (omega (arith, brings, pow-pos k), full) }), then)
             | no part ↦
                 let state = ap (next T st) e ∙ next-part T st w ws part in
-                let l : st .a + 1 < T = omega (arith, part, now .possible .incoming) in
+                let l : st .a + 1 < T = omega (arith, part, now .possible .clock .incoming) in
                 let (frame, then) = counted-by (incoming n S j) (st .a + 1) _ _ state more l in
                 (inl (record { frame = frame; reader = rw state; part = λ (_, last). part last }), then)
           ]

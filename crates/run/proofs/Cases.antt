@@ -20,16 +20,18 @@ use Rattle.sheet.specs.Sheet.{stagesIn}
 use Rattle.sheet.specs.Layout.{fromTo?, stageInRange?, eachStage?, inRange?, allZero?, formedSide?, wellFormed?}
 use Rattle.sheet.proofs.Cases.{reversal}
 use Rattle.maps.specs.Cells.{afterStages}
-use Rattle.run.specs.Memory.{Memory, put}
-use Rattle.run.specs.States.{possible?}
-use Rattle.run.specs.Call.{Outcome}
+use Rattle.faults.specs.Marks.{put}
+use Rattle.memory.specs.Memory.{Memory}
+use Rattle.state.specs.Clocks.{possibleClock?}
+use Rattle.state.specs.States.{possible?}
+use Rattle.call.specs.Call.{Outcome}
 use Rattle.run.specs.Tool.{sheetCall}
-use Rattle.run.specs.declared.State.{State}
+use Rattle.state.specs.declared.State.{State}
 
 -- what a call computes with
 computed : Unit {0}
 unfolding firstOf sized? decLe rightLengths? ℕ-discrete stagesIn fromTo? stageInRange? eachStage? allBelow? inRange? allZero? formedSide? wellFormed? eachBelow decLt
-    possible? someBelow image afterStages dot parity ones inOrder put
+    possibleClock? possible? someBelow image afterStages dot parity ones inOrder put
 computed = tt
 
 abbrev zeros : ℕ → List ℕ

@@ -1,6 +1,6 @@
 -- `call::call` meets its contract. Both lists of places are those that the call writes and reads, and the core of the call does the rest.
 use Prim.Native.Nat.{ℕ, zero, suc, _-_, _*_, _^_, _≤_, _<_}
-use mathlib.Core.Path.{_≡_, refl, sym, ap, ap₂, _∙_}
+use mathlib.Core.Path.{_≡_, sym, ap, ap₂, _∙_}
 use mathlib.Core.Bool.{false, cond}
 use mathlib.Core.List.{List, _++_}
 use borrow.Author.Needs.{needs}
@@ -13,7 +13,6 @@ use Rattle.kinds.specs.Edition.{edition1}
 use Rattle.kinds.specs.Frame.{ticks}
 use Rattle.kinds.specs.Refusal.{said}
 use Rattle.kinds.proofs.TruthLaws.{holds-yes}
-use Rattle.kinds.proofs.FirstLaws.{first-before}
 use Rattle.kinds.proofs.PartLaws.{part-length, part-back}
 use Rattle.sheet.specs.Sheet.{Side}
 use Rattle.maps.specs.Cells.{cellOf}
@@ -26,7 +25,7 @@ use Rattle.call.specs.Call.{readsOf, writesOf, accessOf}
 use Rattle.call.specs.Tool.{rightTick, callTable}
 use Rattle.call.specs.Inside.{mostPorts}
 use Rattle.call.proofs.PlaceLaws.{reads-length, reads-few, are-places, are-writes, are-reads}
-use Rattle.call.proofs.ToolLaws.{comes-refused, SoundCall, call-sound, serving-refuses, serving-does}
+use Rattle.call.proofs.ToolLaws.{comes-checked, SoundCall, call-sound, serving-refuses, serving-does}
 use Rattle.call.proofs.call.Statement.{statement}
 use Rattle.call.proofs.call.Tie as tie
 
@@ -97,9 +96,8 @@ returns c W R write-shows read-shows =
     let args = checked .before .before .before .before .before .args in
     let ws = args .came .now in
     let m : Memory = record { words = args .words .now; marks = args .marks .now } in
-    comes-refused (callTable edition1 (args .n) (args .k) (args .state) (length ws) (length (args .out .now)) (length (m .words)) (length (m .marks)))
-    (args .n) (args .k) (cellOf (args .k) W) (cellOf (args .k) R) (args .state) ws m (args .out .now)
-    (first-before _ _ (sym (checked .check .ensures) ∙ ap said (c .before .checked .given .1))) refl refl
+    comes-checked (callTable edition1 (args .n) (args .k) (args .state) (length ws) (length (args .out .now)) (length (m .words)) (length (m .marks)))
+    (args .n) (args .k) (cellOf (args .k) W) (cellOf (args .k) R) (args .state) ws m (args .out .now) (checked .check .result) (checked .check .ensures) (c .before .checked .given .1)
 
 enum-told : tie.Need-enum-told
 enum-told c = search needs

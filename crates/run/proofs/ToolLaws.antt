@@ -1,0 +1,61 @@
+-- What the run answers.
+--   sheet-call-sound               where a call with a sheet is not refused, nothing was wrong
+--   sheet-call-possible            so after it the state is possible, whatever the sheet
+--   sheet-call-filled              and the filled marks have grown by the words that came, 2^k or none, and shrunk by those that were handed out, 2^k or none
+--   ticks-idle                     where no tick is handed out, the out buffer is as it came
+--   ticks-unique                   the run has one answer, and leaves one memory and one out buffer
+use Prim.Native.Nat.{ℕ, _+_, _^_, _≤_}
+use mathlib.Core.Path.{_≡_, sym, ap, _∙_}
+use mathlib.Core.Bool.{false, cond}
+use mathlib.Core.List.{List}
+use mathlib.Core.Option.{none}
+use native.Mathlib.Omega.{arith}
+use lib.ListN.{length}
+use Rattle.kinds.specs.Answers.{onto}
+use Rattle.kinds.specs.Edition.{Edition}
+use Rattle.kinds.specs.Frame.{ticks}
+use Rattle.kinds.specs.First.{Reason}
+use Rattle.maps.specs.Cells.{M, N}
+use Rattle.maps.proofs.CellLaws.{cell-into}
+use Rattle.state.specs.States.{Possible}
+use Rattle.state.specs.declared.State.{State}
+use Rattle.memory.specs.Memory.{Memory, filledMarks}
+use Rattle.call.specs.Call.{Outcome}
+use Rattle.call.specs.Tool.{rightTick, handedOut}
+use Rattle.call.specs.declared.Ticked.{Ticked}
+use Rattle.call.proofs.CallLaws.{call-given, call-idle, call-possible, call-filled}
+use Rattle.call.proofs.ToolLaws.{comes-unique}
+use Rattle.run.specs.Tool.{beforeFaults, sheetCall, Ticks}
+use Rattle.run.proofs.TableLaws.{Sound, run-sound}
+
+module _ (e : Edition) (n k : ℕ) (s : List ℕ) (st : State) (ws : List ℕ) (m : Memory) (out : List ℕ) where
+  abbrev before : List Reason
+  before = beforeFaults e n k s st ws m out
+
+  abbrev sheet-call : Outcome
+  sheet-call = sheetCall e n k s st ws m out
+
+  module _ (ok : sheet-call .refusal ≡ none) where
+    pub sheet-call-sound : Sound e n k s st ws m out
+    sheet-call-sound = run-sound e n k s st ws m out .0 (sym (call-given before n k (M e n k s) (N e n k s) st ws m) ∙ ok)
+
+    pub sheet-call-possible : Possible (ticks n k) (sheet-call .state)
+    sheet-call-possible = call-possible before n k (M e n k s) (N e n k s) st ws m ok (sheet-call-sound .possible)
+
+    pub sheet-call-filled : (filledMarks (sheet-call .memory .marks) + cond (sheet-call .handed) (2 ^ k) 0 ≡ filledMarks (m .marks) + length ws)
+        × (length ws ≡ rightTick k (length ws))
+    sheet-call-filled =
+        let sound = sheet-call-sound in
+        let (_, (came, (_, (_, (marks, _))))) = sound .right in
+        let within : k ≤ n = omega (arith, sound .sized .most) in (
+          call-filled before n k (M e n k s) (N e n k s) st ws m ok (cell-into (sound .formed .write .used) within) (cell-into (sound .formed .read .used) within) (sound .possible .half)
+              marks came,
+          came,
+        )
+
+  pub ticks-idle : (a : Ticked) (m' : Memory) (out' : List ℕ) → Ticks e n k s st ws m out a m' out' → handedOut a ≡ false → out' ≡ out
+  ticks-idle a m' out' c idle =
+      c .buffer ∙ ap (λ (l : List ℕ). onto l out) (call-idle (beforeFaults e n k s st ws m out) n k (M e n k s) (N e n k s) st ws m (sym (c .handed) ∙ idle))
+
+  pub ticks-unique : (a b : Ticked) {v w : Memory} {l r : List ℕ} → Ticks e n k s st ws m out a v l → Ticks e n k s st ws m out b w r → (a ≡ b) × (v ≡ w) × (l ≡ r)
+  ticks-unique a b x y = comes-unique x y

@@ -24,11 +24,11 @@ use Rattle.sheet.specs.declared.Priced.{Priced}
 use Rattle.sheet.specs.declared.Priced.the-variants.{Costs, Refused as Unpriced}
 use Rattle.memory.specs.Memory.{Memory}
 use Rattle.kinds.specs.Answers.{onto}
-use Rattle.call.specs.Tool.{refusalOf, stateAfter}
-use Rattle.run.specs.Tool.{Ticks}
 use Rattle.state.specs.declared.State.{State}
+use Rattle.call.specs.Tool.{refusalOf, stateAfter}
 use Rattle.call.specs.declared.Ticked.{Ticked}
 use Rattle.call.specs.declared.Ticked.the-variants.{Done, Refused}
+use Rattle.run.specs.Tool.{Ticks}
 
 abbrev pub Numbers : (Answer → Type 0) → ℕ → Type 0
 Numbers T r = (a : Answer) × T a × (r ≡ given (said a))

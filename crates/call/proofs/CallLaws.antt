@@ -19,16 +19,16 @@ use Rattle.kinds.specs.First.{Reason, firstOf}
 use Rattle.kinds.specs.declared.Refusal.{Refusal}
 use Rattle.kinds.proofs.FirstLaws.{first-none, first-append, first-both}
 use Rattle.bits.specs.Image.{AllBelow}
-use Rattle.faults.proofs.FaultLaws.{apart}
-use Rattle.memory.specs.Memory.{Memory, filledMarks}
-use Rattle.faults.specs.Faults.{faults}
 use Rattle.state.specs.States.{Possible}
-use Rattle.call.specs.Call.{readsOf, writesOf, accessOf, Outcome, carriedOut, refused, outcome, call}
-use Rattle.call.specs.Tool.{rightTick}
 use Rattle.state.specs.declared.State.{State}
 use Rattle.state.proofs.StateLaws.{next-possible}
-use Rattle.call.proofs.PlaceLaws.{nothing, reads-length, writes-length, reads-below, writes-below}
+use Rattle.faults.specs.Faults.{faults}
+use Rattle.faults.proofs.FaultLaws.{apart}
+use Rattle.memory.specs.Memory.{Memory, filledMarks}
 use Rattle.memory.proofs.CountLaws.{served-filled}
+use Rattle.call.specs.Call.{readsOf, writesOf, accessOf, Outcome, carriedOut, refused, outcome, call}
+use Rattle.call.specs.Tool.{rightTick}
+use Rattle.call.proofs.PlaceLaws.{nothing, reads-length, writes-length, reads-below, writes-below}
 
 module _ (t : List Reason) (n k : ℕ) (f g : ℕ → ℕ) (st : State) (ws : List ℕ) (m : Memory) where
   abbrev writes : List ℕ

@@ -28,11 +28,11 @@ use Rattle.bits.specs.Image.{AllBelow}
 use Rattle.sheet.specs.Sheet.{Side}
 use Rattle.maps.specs.Cells.{cellAt, cellOf}
 use Rattle.maps.proofs.CellLaws.{cell-word}
-use Rattle.faults.specs.Faults.{Clash}
 use Rattle.state.specs.States.{reading}
+use Rattle.state.specs.declared.State.{State}
+use Rattle.faults.specs.Faults.{Clash}
 use Rattle.call.specs.Call.{placeIn, placesOf, readsOf, writesOf}
 use Rattle.call.specs.Tool.{rightTick}
-use Rattle.state.specs.declared.State.{State}
 
 half-bank : {n k : ℕ} → k ≤ n → (h x : ℕ) → bankOf k (placeIn n h x) ≡ bankOf k x
 half-bank {n} {k} within h x =

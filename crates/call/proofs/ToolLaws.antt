@@ -10,7 +10,7 @@
 use Prim.Native.Nat.{ℕ, zero, suc, _^_, _≤_}
 use mathlib.Core.Path.{_≡_, refl, sym, ap, _∙_}
 use mathlib.Core.Bool.{Bool, false}
-use mathlib.Core.List.{List, [], _++_}
+use mathlib.Core.List.{List, _++_}
 use mathlib.Core.Logic.{_↔_}
 use mathlib.Core.Option.{none, some}
 use native.Mathlib.Omega.{arith}
@@ -21,19 +21,19 @@ use Rattle.kinds.specs.Edition.{Edition, edition1, Sized, sized?}
 use Rattle.kinds.specs.Frame.{ticks}
 use Rattle.kinds.specs.First.{Reason, firstOf}
 use Rattle.kinds.specs.Refusal.{said}
+use Rattle.kinds.specs.Reasons.{RightLengths, rightLengths?}
 use Rattle.kinds.specs.declared.Answer.{Answer}
 use Rattle.kinds.specs.declared.Answer.the-variants as Answer
 use Rattle.kinds.specs.declared.Refusal.{Refusal}
-use Rattle.kinds.specs.Reasons.{RightLengths, rightLengths?}
 use Rattle.kinds.proofs.TruthLaws.{stable}
 use Rattle.kinds.proofs.FirstLaws.{none-some, first-before, first-skip, first-append, first-none}
+use Rattle.state.specs.States.{Possible, possible?, reading, next}
+use Rattle.state.specs.declared.State.{State}
+use Rattle.faults.specs.Faults.{faults}
 use Rattle.memory.specs.Memory.{Memory, Access, wordsAt, served}
 use Rattle.memory.specs.Serving.{serveTable, Serves}
-use Rattle.faults.specs.Faults.{faults}
-use Rattle.state.specs.States.{Possible, possible?, reading, next}
 use Rattle.call.specs.Call.{readsOf, writesOf, accessOf, Outcome, call}
 use Rattle.call.specs.Tool.{rightTick, runLengths, callTable, refusalOf, stateAfter, handedOut, ComesOf}
-use Rattle.state.specs.declared.State.{State}
 use Rattle.call.specs.declared.Ticked.{Ticked}
 use Rattle.call.specs.declared.Ticked.the-variants.{Done, Refused}
 use Rattle.call.proofs.PlaceLaws.{reads-few, writes-length}

@@ -17,10 +17,10 @@ use mathlib.Core.Option.{Option, none, some}
 use Rattle.kinds.specs.Frame.{ticks, wordAt, inOrder}
 use Rattle.kinds.specs.First.{Reason, firstOf}
 use Rattle.kinds.specs.declared.Refusal.{Refusal}
-use Rattle.memory.specs.Memory.{Memory, Access, wordsAt, served}
-use Rattle.faults.specs.Faults.{faults}
 use Rattle.state.specs.States.{reading, next}
 use Rattle.state.specs.declared.State.{State}
+use Rattle.faults.specs.Faults.{faults}
+use Rattle.memory.specs.Memory.{Memory, Access, wordsAt, served}
 
 abbrev pub placeIn : ℕ → ℕ → ℕ → ℕ
 placeIn n h x = h * 2 ^ n + x

@@ -23,9 +23,9 @@ use Rattle.sheet.specs.Sheet.{Side}
 use Rattle.maps.specs.Cells.{cellOf}
 use Rattle.maps.specs.Opened.{Shows}
 use Rattle.maps.specs.declared.OpenSide.{OpenSide}
-use Rattle.memory.specs.Memory.{Memory}
 use Rattle.state.specs.States.{impossible}
 use Rattle.state.specs.declared.State.{State}
+use Rattle.memory.specs.Memory.{Memory}
 use Rattle.call.specs.Call.{Outcome, call}
 use Rattle.call.specs.declared.Ticked.{Ticked}
 use Rattle.call.specs.declared.Ticked.the-variants.{Done, Refused}

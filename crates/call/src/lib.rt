@@ -72,7 +72,15 @@ pub fn call(
     Ticked::Done(state.next(ticks, came), reading)
 }
 
-fn check(n: u32, k: u32, state: State, came: usize, out: usize, words: usize, marks: usize) -> Answer
+fn check(
+    n: u32,
+    k: u32,
+    state: State,
+    came: usize,
+    out: usize,
+    words: usize,
+    marks: usize,
+) -> Answer
     ensures { λ r. ⌜ said r ≡ firstOf (callTable edition1 n k state came out words marks) ⌝ }
 {
     if !kinds::sized(n, k) {

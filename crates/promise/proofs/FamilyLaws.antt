@@ -17,10 +17,10 @@ use Rattle.kinds.specs.Frame.{ticks, tickOf, portOf}
 use Rattle.kinds.specs.Answers.{Says}
 use Rattle.kinds.specs.Refusal.{given}
 use Rattle.kinds.proofs.FrameLaws.{tick-lt, port-lt}
-use Rattle.memory.specs.Memory.{Memory, served}
 use Rattle.state.specs.States.{reading, next}
-use Rattle.call.specs.Call.{Outcome, accessOf, carriedOut}
 use Rattle.state.specs.declared.State.{State}
+use Rattle.memory.specs.Memory.{Memory, served}
+use Rattle.call.specs.Call.{Outcome, accessOf, carriedOut}
 use Rattle.call.proofs.CallLaws.{call-done, call-leaving}
 use Rattle.promise.specs.Series.{callAt, Series, wordIn, CompletedIn, TickDue, dueCall, duePort, Stand, Fresh, incoming, outgoing, standing, outcomeOf, called, Leaves, RightOver}
 use Rattle.promise.specs.Passes.{Fits}

@@ -24,19 +24,19 @@ use Rattle.kinds.proofs.FrameLaws.{tick-lt, port-lt, word-lt}
 use Rattle.kinds.proofs.FirstLaws.{first-none}
 use Rattle.span.specs.Maps.{Injective, Bijection}
 use Rattle.span.proofs.Counting.{injective-onto}
-use Rattle.memory.specs.Memory.{Memory, stored, emptied, wordsAt, served}
+use Rattle.state.specs.States.{Possible, afterRead, afterWrite, turned, next}
+use Rattle.state.specs.declared.State.{State}
+use Rattle.state.proofs.StateLaws.{next-possible}
 use Rattle.faults.specs.Marks.{Filled, put, marked}
 use Rattle.faults.specs.Faults.{Clash, SomeFilled, SomeEmpty, faults}
-use Rattle.state.specs.States.{Possible, afterRead, afterWrite, turned, next}
+use Rattle.faults.proofs.MarkLaws.{put-nil, put-length, put-other}
+use Rattle.faults.proofs.FaultLaws.{Different}
+use Rattle.memory.specs.Memory.{Memory, stored, emptied, wordsAt, served}
+use Rattle.memory.proofs.MemoryLaws.{words-at}
+use Rattle.memory.proofs.CountLaws.{put-in}
 use Rattle.call.specs.Call.{placeIn, placesOf, readsOf, writesOf, accessOf, call}
 use Rattle.call.specs.Tool.{rightTick}
-use Rattle.state.specs.declared.State.{State}
-use Rattle.memory.proofs.MemoryLaws.{words-at}
-use Rattle.faults.proofs.MarkLaws.{put-nil, put-length, put-other}
 use Rattle.call.proofs.PlaceLaws.{places-clash, halves-apart, places-at, places-length, places-below}
-use Rattle.faults.proofs.FaultLaws.{Different}
-use Rattle.memory.proofs.CountLaws.{put-in}
-use Rattle.state.proofs.StateLaws.{next-possible}
 use Rattle.call.proofs.CallLaws.{call-given}
 use Rattle.promise.specs.Passes.{BanksApart, Fits}
 use Rattle.promise.specs.Series.{Stand, Fresh}

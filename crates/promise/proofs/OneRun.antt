@@ -23,17 +23,17 @@ use Rattle.kinds.proofs.FirstLaws.{first-none}
 use Rattle.span.specs.Maps.{Injective, Bijection}
 use Rattle.span.proofs.Counting.{apart-injective, injective-onto}
 use Rattle.sheet.specs.Layout.{AllZero}
-use Rattle.memory.specs.Memory.{Memory, stored, wordsAt, served}
+use Rattle.state.specs.States.{next}
+use Rattle.state.specs.declared.State.{State}
+use Rattle.state.proofs.StateLaws.{read-more, read-idle, next-blank, next-part, next-full}
 use Rattle.faults.specs.Marks.{put}
 use Rattle.faults.specs.Faults.{Clash, SomeFilled, faults}
-use Rattle.state.specs.States.{next}
-use Rattle.call.specs.Call.{placesOf, readsOf, writesOf, accessOf, Outcome, carriedOut}
-use Rattle.state.specs.declared.State.{State}
-use Rattle.memory.proofs.MemoryLaws.{words-at}
 use Rattle.faults.proofs.MarkLaws.{put-length, put-other}
-use Rattle.state.proofs.StateLaws.{read-more, read-idle, next-blank, next-part, next-full}
 use Rattle.faults.proofs.FaultLaws.{Different, apart}
+use Rattle.memory.specs.Memory.{Memory, stored, wordsAt, served}
+use Rattle.memory.proofs.MemoryLaws.{words-at}
 use Rattle.memory.proofs.CountLaws.{put-in}
+use Rattle.call.specs.Call.{placesOf, readsOf, writesOf, accessOf, Outcome, carriedOut}
 use Rattle.call.proofs.PlaceLaws.{places-at, places-length, places-clash, places-below}
 use Rattle.call.proofs.CallLaws.{call-given, call-done}
 use Rattle.promise.specs.Series.{callAt, Series, dueCall, Stand, Fresh, freshStand, oneFrame, standing, outcomeOf, called, RightOver}

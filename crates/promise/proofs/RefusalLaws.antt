@@ -7,10 +7,10 @@ use mathlib.Core.Option.{Option, none, some}
 use native.Mathlib.Omega.{arith}
 use Rattle.kinds.specs.declared.Refusal.{Refusal}
 use Rattle.kinds.proofs.FirstLaws.{first-has}
-use Rattle.memory.specs.Memory.{Memory}
-use Rattle.faults.specs.Faults.{faults}
-use Rattle.call.specs.Call.{readsOf, writesOf, call}
 use Rattle.state.specs.declared.State.{State}
+use Rattle.faults.specs.Faults.{faults}
+use Rattle.memory.specs.Memory.{Memory}
+use Rattle.call.specs.Call.{readsOf, writesOf, call}
 use Rattle.call.proofs.CallLaws.{call-given}
 use Rattle.promise.specs.Series.{IsFault}
 

@@ -53,10 +53,10 @@ use Rattle.bits.specs.Image.{AllBelow}
 use Rattle.order.specs.Order.{place}
 use Rattle.sheet.specs.Layout.{AllZero}
 use Rattle.maps.specs.Cells.{M, N}
+use Rattle.state.specs.declared.State.{State}
 use Rattle.memory.specs.Memory.{Memory}
 use Rattle.call.specs.Call.{Outcome, call}
 use Rattle.run.specs.Tool.{sheetCall}
-use Rattle.state.specs.declared.State.{State}
 
 abbrev pub Words32 : List ℕ → Type 0
 Words32 l = AllBelow (2 ^ 32) l

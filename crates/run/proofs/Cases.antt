@@ -10,23 +10,23 @@ use lib.ListN.{set, replicate}
 use Rattle.kinds.specs.Edition.{edition1, sized?}
 use Rattle.kinds.specs.Frame.{inOrder}
 use Rattle.kinds.specs.Refusal.{given}
-use Rattle.kinds.specs.declared.Refusal.the-variants.{WriteClash, ReadClash}
 use Rattle.kinds.specs.First.{firstOf}
 use Rattle.kinds.specs.Reasons.{rightLengths?}
 use Rattle.kinds.specs.Search.{someBelow, eachBelow}
+use Rattle.kinds.specs.declared.Refusal.the-variants.{WriteClash, ReadClash}
 use Rattle.bits.specs.Image.{image, allBelow?}
 use Rattle.bits.specs.Parity.{parity, dot}
 use Rattle.sheet.specs.Sheet.{stagesIn}
 use Rattle.sheet.specs.Layout.{fromTo?, stageInRange?, eachStage?, inRange?, allZero?, formedSide?, wellFormed?}
 use Rattle.sheet.proofs.Cases.{reversal}
 use Rattle.maps.specs.Cells.{afterStages}
-use Rattle.faults.specs.Marks.{put}
-use Rattle.memory.specs.Memory.{Memory}
 use Rattle.state.specs.Clocks.{possibleClock?}
 use Rattle.state.specs.States.{possible?}
+use Rattle.state.specs.declared.State.{State}
+use Rattle.faults.specs.Marks.{put}
+use Rattle.memory.specs.Memory.{Memory}
 use Rattle.call.specs.Call.{Outcome}
 use Rattle.run.specs.Tool.{sheetCall}
-use Rattle.state.specs.declared.State.{State}
 
 -- what a call computes with
 computed : Unit {0}

@@ -21,14 +21,14 @@ use Rattle.sheet.specs.Layout.{WellFormed, wellFormed?}
 use Rattle.sheet.specs.Table.{sheetLengths, sheetTable}
 use Rattle.sheet.proofs.TableLaws.{sheet-sound}
 use Rattle.maps.specs.Cells.{M, N}
-use Rattle.memory.specs.Memory.{Memory}
-use Rattle.faults.specs.Faults.{Clash, SomeFilled, SomeEmpty, faults}
 use Rattle.state.specs.States.{Possible, possible?}
+use Rattle.state.specs.declared.State.{State}
+use Rattle.faults.specs.Faults.{Clash, SomeFilled, SomeEmpty, faults}
+use Rattle.memory.specs.Memory.{Memory}
 use Rattle.call.specs.Call.{readsOf, writesOf}
 use Rattle.call.specs.Tool.{runLengths, callTable}
 use Rattle.call.proofs.ToolLaws.{call-sound}
 use Rattle.run.specs.Tool.{checkTable, beforeFaults}
-use Rattle.state.specs.declared.State.{State}
 
 pub check-sound : (e : Edition) (n k : ℕ) (s : List ℕ) (st : State) (came out words marks : ℕ) → firstOf (checkTable e n k s st came out words marks) ≡ none
     → (firstOf (sheetTable e n k s (runLengths n k came out words marks)) ≡ none) × (firstOf (callTable e n k st came out words marks) ≡ none)

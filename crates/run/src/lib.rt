@@ -1,5 +1,4 @@
 // The run: one tick of any sheet.
-ghost use mathlib.Core.Path.{_≡_};
 ghost use Rattle.kinds.specs.Edition.{edition1};
 ghost use Rattle.run.specs.Tool.{Begins, Ticks};
 use call::Ticked;
@@ -23,7 +22,16 @@ pub fn tick(
         (record { words = now (words .entry); marks = now (marks .entry) }) (now (out .entry)) r
         (record { words = now (words .exit); marks = now (marks .exit) }) (now (out .exit)) ⌝ }
 {
-    let begun = check(n, k, sheet, state, came.len(), out.len(), words.len(), marks.len());
+    let begun = check(
+        n,
+        k,
+        sheet,
+        state,
+        came.len(),
+        out.len(),
+        words.len(),
+        marks.len(),
+    );
     let checked = begun.answer;
     if let Answer::Refused(refusal) = checked {
         return Ticked::Refused(refusal);

@@ -5,14 +5,13 @@
 --   next-full              words that do start the next one, and the reader
 --   next-possible          the state after a possible one is possible
 use Prim.Native.Nat.{ℕ, _+_, _-_, _<_, _≤_}
-use mathlib.Core.Path.{_≡_, refl}
-use mathlib.Core.Bool.{Bool, true, false, cond}
+use mathlib.Core.Path.{_≡_}
 use mathlib.Core.List.{List, [], _∷_}
 use mathlib.Core.Logic.{_≢_}
 use native.Mathlib.Decide.{ℕ-discrete, decLt}
 use native.Mathlib.Omega.{arith}
 use borrow.Author.Tests.{lt-ltb, le-ltb, eq-eqb, ne-eqb}
-use Rattle.state.specs.States.{Possible, reading, afterRead, afterWrite, turned, next}
+use Rattle.state.specs.States.{Possible, afterRead, afterWrite, turned, next}
 use Rattle.state.specs.declared.State.{State}
 
 module _ (T : ℕ) (st : State) where

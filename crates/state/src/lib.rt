@@ -58,15 +58,9 @@ impl Clock {
         }
         let a = after.a + 1;
         if a == ticks {
-            return Clock {
-                a: 0,
-                r: 0,
-            };
+            return Clock { a: 0, r: 0 };
         }
-        Clock {
-            a,
-            r: after.r,
-        }
+        Clock { a, r: after.r }
     }
 
     fn after_read(self, ticks: u32) -> Clock
@@ -74,10 +68,7 @@ impl Clock {
     {
         if self.r < ticks {
             let r = self.r + 1;
-            return Clock {
-                a: self.a,
-                r,
-            };
+            return Clock { a: self.a, r };
         }
         self
     }

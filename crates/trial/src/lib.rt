@@ -10,9 +10,9 @@ ghost use Rattle.kinds.specs.Reasons.{RightLengths};
 ghost use Rattle.call.specs.Tool.{stateAfter};
 ghost use Rattle.trial.specs.Trial.{Tries};
 ghost use Rattle.trial.specs.Inside.{handedOut, Here, Numbered, Entering, Leaving};
+use call::Ticked;
 use kinds::Answer;
 use state::State;
-use call::Ticked;
 
 // Room for the ports of a tick, and for the two halves of the memory.
 const PORTS: usize = 1 << kinds::MOST_K;

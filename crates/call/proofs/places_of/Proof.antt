@@ -11,11 +11,11 @@ use lib.Seq.{getD-set-same, getD-set-other}
 use Rattle.kinds.specs.declared.Answer.{Answer}
 use Rattle.kinds.proofs.FirstLaws.{first-none}
 use Rattle.kinds.proofs.FrameLaws.{in-order-at, in-order-is}
+use Rattle.kinds.proofs.PartLaws.{part-length, part-back}
 use Rattle.maps.specs.Cells.{cellAt}
 use Rattle.maps.specs.Opened.{ListsCells}
 use Rattle.maps.specs.declared.OpenSide.{OpenSide}
 use Rattle.call.specs.Inside.{mostPorts, ListsPlaces}
-use Rattle.kinds.proofs.PartLaws.{part-length, part-back}
 use Rattle.call.proofs.places_of.Statement.{statement}
 use Rattle.call.proofs.places_of.Tie as tie
 

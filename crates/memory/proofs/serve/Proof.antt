@@ -39,7 +39,7 @@ module _ (A : Access) (m : Memory) (out : List ℕ) (fit : Fitting (length (A .w
       → (_≡_ {A = Memory} (record { words = words'; marks = marks' }) (served A m)) × (out' ≡ onto (wordsAt (A .reads) (m .words)) out)
   both-done o e w f = (
     same-memory (w ∙ holds-yes each _ _ (fit .a-word-each))
-    (f ∙ holds-yes each _ _ (fit .a-word-each) ∙ ap (marked 1 (A .writes)) (e ∙ holds-yes room _ _ (fit .room))),
+        (f ∙ holds-yes each _ _ (fit .a-word-each) ∙ ap (marked 1 (A .writes)) (e ∙ holds-yes room _ _ (fit .room))),
     o ∙ holds-yes room _ _ (fit .room),
   )
 

@@ -6,7 +6,7 @@ use mathlib.Core.Option.{none}
 use borrow.Author.Needs.{needs}
 use lib.ListN.{length}
 use Rattle.kinds.specs.Edition.{edition1}
-use Rattle.kinds.specs.First.{Reason, firstOf}
+use Rattle.kinds.specs.First.{firstOf}
 use Rattle.kinds.specs.Refusal.{said}
 use Rattle.kinds.specs.declared.Answer.the-variants as Answer
 use Rattle.sheet.specs.Sheet.{writeSide, readSide}
@@ -14,7 +14,7 @@ use Rattle.maps.specs.Cells.{M, N}
 use Rattle.maps.specs.declared.Opened.{Opened}
 use Rattle.state.specs.declared.State.{State}
 use Rattle.memory.specs.Memory.{Memory}
-use Rattle.call.specs.Tool.{callTable, Calls}
+use Rattle.call.specs.Tool.{Calls}
 use Rattle.call.specs.declared.Ticked.{Ticked}
 use Rattle.call.proofs.ToolLaws.{comes-past, comes-checked}
 use Rattle.run.specs.Tool.{beforeFaults, Begins, Ticks}
@@ -27,7 +27,8 @@ module _ (n k : ℕ) (s : List ℕ) (st : State) (ws : List ℕ) (m : Memory) (o
   none-given : firstOf (beforeFaults edition1 n k s st ws m out) ≡ none
   none-given = sym (begins .answer) ∙ ap said done
 
-  ticks-by : {a : Ticked} {m' : Memory} {out' : List ℕ} → Calls edition1 n k (r .write) (r .read) st ws m out a m' out' → Ticks edition1 n k s st ws m out a m' out'
+  ticks-by : {a : Ticked} {words marks out' : List ℕ} → Calls edition1 n k (r .write) (r .read) st ws m out a (record { words = words; marks = marks }) out'
+      → Ticks edition1 n k s st ws m out a (record { words = words; marks = marks }) out'
   ticks-by calls =
       let (opened, sound) = check-sound edition1 n k s st (length ws) (length out) (length (m .words)) (length (m .marks)) none-given in
       comes-past (beforeFaults edition1 n k s st ws m out) n k (M edition1 n k s) (N edition1 n k s) st ws m out _ none-given sound

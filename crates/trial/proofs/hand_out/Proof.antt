@@ -12,10 +12,10 @@ use Rattle.kinds.specs.Edition.{edition1}
 use Rattle.kinds.specs.Frame.{ticks, tickOf, portOf}
 use Rattle.kinds.proofs.FrameLaws.{in-order-length, in-order-is}
 use Rattle.kinds.specs.Answers.{onto}
-use Rattle.call.specs.Tool.{stateAfter}
-use Rattle.run.specs.Tool.{Ticks}
 use Rattle.state.specs.declared.State.{State}
+use Rattle.call.specs.Tool.{stateAfter}
 use Rattle.call.specs.declared.Ticked.{Ticked}
+use Rattle.run.specs.Tool.{Ticks}
 use Rattle.promise.proofs.OneFrame.{blank-call}
 use Rattle.trial.specs.Inside.{leavesIn, handedOut, Leaving}
 use Rattle.trial.proofs.CallLaws.{tick-leaves}

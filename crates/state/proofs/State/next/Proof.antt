@@ -8,7 +8,6 @@ use borrow.Author.Tests.{ne-eqb, not-true, not-false}
 use native.Mathlib.Omega.{arith}
 use lib.Dec.{eqb}
 use lib.ListN.{length}
-use Rattle.kinds.specs.Answers.{Says}
 use Rattle.kinds.specs.Decided.{ifHolds}
 use Rattle.kinds.proofs.TruthLaws.{holds-yes, holds-no, says-same, denied}
 use Rattle.state.specs.Clocks.{possibleClock?, readOn, counted, full, nextClock}

@@ -6,18 +6,17 @@
 -- With `plans-unique`, `inspects-unique`, `moves-unique`, `inverts-unique` and `lists-unique` the first says it of the others.
 use Prim.Native.Nat.{ℕ}
 use mathlib.Core.Path.{_≡_, sym, ap, _∙_}
-use mathlib.Core.List.{List, [], _∷_}
-use lib.ListN.{length}
+use mathlib.Core.List.{List}
 use Rattle.kinds.specs.Edition.{Edition}
-use Rattle.kinds.specs.Reasons.{RightLengths, rightLengths?}
+use Rattle.kinds.specs.Reasons.{rightLengths?}
 use Rattle.kinds.specs.Refusal.{said, given}
 use Rattle.kinds.specs.declared.Answer.{Answer}
 use Rattle.price.specs.Price.{refusalOf as refusalOfPrice}
 use Rattle.price.specs.declared.Priced.{Priced}
 use Rattle.price.proofs.PriceLaws.{prices-unique}
-use Rattle.run.specs.Memory.{Memory}
-use Rattle.run.specs.Tool.{refusalOf, stateAfter}
-use Rattle.run.specs.declared.Ticked.{Ticked}
+use Rattle.memory.specs.Memory.{Memory}
+use Rattle.call.specs.Tool.{refusalOf, stateAfter}
+use Rattle.call.specs.declared.Ticked.{Ticked}
 use Rattle.run.proofs.ToolLaws.{ticks-unique}
 use Rattle.board.specs.Names.{Numbers, Besides, stateIn, placesOf, saidAfter, TicksAs, sumsAfter, PricesAs}
 

@@ -11,7 +11,7 @@ use Rattle.kinds.specs.First.{firstOf}
 use Rattle.kinds.specs.Reasons.{RightLengths, outside, wrongLength}
 use Rattle.kinds.specs.Refusal.{given, valuesOf}
 use Rattle.kinds.specs.declared.Refusal.{Refusal}
-use Rattle.run.specs.Memory.{onto}
+use Rattle.kinds.specs.Answers.{onto}
 
 abbrev pub WrongLength : Edition → ℕ → ℕ → ℕ → Type 0
 WrongLength e n k r = (l : List (ℕ × ℕ)) → ¬ RightLengths l → r ≡ given (firstOf (outside (sized? e n k) ∷ wrongLength l ∷ []))

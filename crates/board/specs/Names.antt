@@ -22,11 +22,13 @@ use Rattle.kinds.specs.declared.Answer.{Answer}
 use Rattle.price.specs.Price.{Prices, refusalOf as refusalOfPrice, sumsOf}
 use Rattle.price.specs.declared.Priced.{Priced}
 use Rattle.price.specs.declared.Priced.the-variants.{Costs, Refused as Unpriced}
-use Rattle.run.specs.Memory.{Memory, onto}
-use Rattle.run.specs.Tool.{refusalOf, stateAfter, Ticks}
-use Rattle.run.specs.declared.State.{State}
-use Rattle.run.specs.declared.Ticked.{Ticked}
-use Rattle.run.specs.declared.Ticked.the-variants.{Done, Refused}
+use Rattle.memory.specs.Memory.{Memory}
+use Rattle.kinds.specs.Answers.{onto}
+use Rattle.state.specs.declared.State.{State}
+use Rattle.call.specs.Tool.{refusalOf, stateAfter}
+use Rattle.call.specs.declared.Ticked.{Ticked}
+use Rattle.call.specs.declared.Ticked.the-variants.{Done, Refused}
+use Rattle.run.specs.Tool.{Ticks}
 
 abbrev pub Numbers : (Answer → Type 0) → ℕ → Type 0
 Numbers T r = (a : Answer) × T a × (r ≡ given (said a))

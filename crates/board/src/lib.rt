@@ -9,11 +9,11 @@ ghost use Rattle.inspect.specs.Tool.{Inspects};
 ghost use Rattle.card.specs.Tool.{Lists};
 ghost use Rattle.board.specs.Names.{Numbers, Reports, TicksAs, PricesAs};
 ghost use Rattle.board.specs.Inside.{WrongLength, Three, NamesPorts};
+use call::Ticked;
 use kinds::Answer;
 use kinds::Refusal;
-use price::Priced;
-use run::State;
-use run::Ticked;
+use sheet::Priced;
+use state::State;
 
 fn number_of(answer: Answer) -> u32
     ensures { λ r. ⌜ r ≡ given (saidBy answer) ⌝ }

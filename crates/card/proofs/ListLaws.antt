@@ -20,7 +20,7 @@ use Rattle.kinds.proofs.FirstLaws.{first-none, first-skip, first-alike}
 use Rattle.text.specs.Decimal.{codes, decimal}
 use Rattle.text.proofs.DecimalLaws.{decimal-length}
 use Rattle.order.specs.Table.{orderTable}
-use Rattle.run.specs.Memory.{onto}
+use Rattle.kinds.specs.Answers.{onto}
 use Rattle.sheet.proofs.LayLaws.{padded-part}
 use Rattle.card.specs.Card.{mostColumns, columnsOn, unreadable, Reads, cardTable}
 use Rattle.card.specs.Listing.{spaced, line, listing}

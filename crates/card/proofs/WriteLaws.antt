@@ -14,7 +14,7 @@ use mathlib.Core.List.{List, [], _∷_, _++_}
 use native.Mathlib.Omega.{arith}
 use lib.ListN.{length, drop, set, length-append}
 use lib.Seq.{sets, length-sets, sets-eq}
-use Rattle.run.specs.Memory.{onto}
+use Rattle.kinds.specs.Answers.{onto}
 use Rattle.card.specs.Inside.{Fits, Writes}
 
 sets-append : (v w x : List ℕ) (at : ℕ) → sets x at (v ++ w) ≡ sets (sets x at v) (at + length v) w

@@ -1,6 +1,7 @@
 -- A bool that says whether a statement holds, and statements that are decided.
 --   false≢true      anything follows from it
 --   stable          a decided statement holds if it can't fail
+--   holds-yes, holds-no      what is taken where a decided statement holds, and where it doesn't
 --   says-no         false says whether a statement holds that does not
 --   says-yes        true says whether one holds that does
 --   denied          where the bool is false, the statement does not hold
@@ -10,6 +11,7 @@ use Prim.Native.Nat.{ℕ}
 use mathlib.Core.Path.{_≡_, refl, sym, _∙_}
 use mathlib.Core.Bool.{Bool, true, false, Bool·beq}
 use native.Mathlib.Omega.{arith}
+use Rattle.kinds.specs.Decided.{ifHolds}
 use Rattle.kinds.specs.Answers.{Says}
 
 pub false≢true : {A : Type 0} → false ≡ true → A
@@ -18,6 +20,15 @@ false≢true e = absurd (let z : _≡_ {A = ℕ} 0 1 = cc in omega arith)
 pub stable : {A : Type 0} → Dec A → ¬ (¬ A) → A
 stable (yes a) n = a
 stable (no m) n = absurd (n m)
+
+module _ {P A : Type 0} where
+  pub holds-yes : (d : Dec P) (x y : A) → P → ifHolds d x y ≡ x
+  holds-yes (yes p) x y h = refl
+  holds-yes (no n) x y h = absurd (n h)
+
+  pub holds-no : (d : Dec P) (x y : A) → ¬ P → ifHolds d x y ≡ y
+  holds-no (yes p) x y n = absurd (n p)
+  holds-no (no m) x y n = refl
 
 module _ {P : Type 0} where
   pub says-no : ¬ P → Says false P

@@ -4,12 +4,14 @@
 --                          beside those that the check knows, as long as fits says whether they are right
 --   Answers t o D K        a tool's answer, where o is the refusal that it gives, if it gives one: o is the first of the table t that applies;
 --                          where that is none, D holds, what the tool is to answer or to leave; on a refusal K, everything lent is as it came
+--   onto l out             the lent buffer out after the numbers l went there, from its first place on; it is long enough for them
 use Prim.Native.Nat.{ℕ}
 use mathlib.Core.Path.{_≡_}
 use mathlib.Core.Bool.{Bool, true}
-use mathlib.Core.List.{List}
+use mathlib.Core.List.{List, _++_}
 use mathlib.Core.Logic.{_↔_}
 use mathlib.Core.Option.{Option, none, some}
+use lib.ListN.{length, drop}
 use Rattle.kinds.specs.Refusal.{said}
 use Rattle.kinds.specs.First.{Reason, firstOf}
 use Rattle.kinds.specs.Reasons.{RightLengths}
@@ -26,3 +28,6 @@ pub record Answers (t : List Reason) (o : Option Refusal) (D K : Type 0) : Type 
   pub first-of : o ≡ firstOf t
   pub done : o ≡ none → D
   pub refused : (x : Refusal) → o ≡ some x → K
+
+abbrev pub onto : List ℕ → List ℕ → List ℕ
+onto l out = l ++ drop (length l) out

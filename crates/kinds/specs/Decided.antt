@@ -1,8 +1,9 @@
--- Decisions made of decisions.
+-- Decisions made of decisions, and what is taken by one.
 --   both d e        whether two statements hold, where d decides the one and e the other
 --   through w d     whether a statement holds that holds exactly when the one that d decides does
 --   opposite d      whether the one that d decides fails
 --   implied d e     whether the one that e decides holds, if the one that d decides does
+--   ifHolds d x y   x where the one that d decides holds, else y
 use mathlib.Core.Logic.{_↔_}
 
 abbrev pub both : {A B : Type 0} → Dec A → Dec B → Dec (A × B)
@@ -22,3 +23,7 @@ abbrev pub implied : {A B : Type 0} → Dec A → Dec B → Dec (A → B)
 implied d (yes b) = yes (λ a. b)
 implied (yes a) (no n) = no (λ i. n (i a))
 implied (no m) (no n) = yes (λ a. absurd (m a))
+
+abbrev pub ifHolds : {P A : Type 0} → Dec P → A → A → A
+ifHolds (yes p) x y = x
+ifHolds (no n) x y = y

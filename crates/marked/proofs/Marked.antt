@@ -19,7 +19,7 @@ use Rattle.sheet.specs.Sheet.{stagesIn}
 use Rattle.sheet.specs.Layout.{fromTo?, stageInRange?, eachStage?, inRange?, allZero?, formedSide?, wellFormed?}
 use Rattle.switches.specs.Stages.{afterStages}
 use Rattle.switches.specs.Written.{keptStages}
-use Rattle.run.specs.Memory.{put}
+use Rattle.faults.specs.Marks.{put}
 use Rattle.promise.specs.Series.{standing}
 use Rattle.plan.specs.Planned.{othersOfP1, portsToZero, keptOfP3, pairs, readStages}
 use Rattle.marked.specs.Cases.{Each, marked}

@@ -13,11 +13,12 @@ use lib.ListN.{length, drop, length-append, List·getD-append}
 use Rattle.kinds.specs.Edition.{Edition, Sized, sheetPlaces}
 use Rattle.order.specs.Order.{place}
 use Rattle.sheet.specs.Layout.{WellFormed}
-use Rattle.run.specs.Memory.{Memory}
-use Rattle.run.specs.Call.{Outcome}
-use Rattle.run.specs.Tool.{refusalOf, stateAfter, handedOut, ComesOf, Ticks}
-use Rattle.run.specs.declared.State.{State}
-use Rattle.run.specs.declared.Ticked.{Ticked}
+use Rattle.state.specs.declared.State.{State}
+use Rattle.memory.specs.Memory.{Memory}
+use Rattle.call.specs.Call.{Outcome}
+use Rattle.call.specs.Tool.{refusalOf, stateAfter, handedOut, ComesOf}
+use Rattle.call.specs.declared.Ticked.{Ticked}
+use Rattle.run.specs.Tool.{Ticks}
 use Rattle.promise.specs.Series.{callAt, Series, Stand, Fresh, standing, outcomeOf, ticked, Leaves, RightOver, Right}
 use Rattle.promise.proofs.ToolLaws.{tool-right}
 

@@ -19,7 +19,7 @@ use Rattle.sheet.specs.Sheet.{stagesIn}
 use Rattle.sheet.proofs.Cases.{reversal}
 use Rattle.switches.specs.Stages.{afterStages}
 use Rattle.switches.specs.Cells.{M, N}
-use Rattle.run.specs.Memory.{put}
+use Rattle.faults.specs.Marks.{put}
 use Rattle.promise.specs.Series.{wordIn, dueCall, duePort, Stand, standing, outcomeOn}
 use Rattle.promise.specs.Passes.{passTable}
 

@@ -6,7 +6,7 @@
 --   Stays, Turns       a call that completes no frame, and one that does: the frame that comes in, and the reader, after it
 --   counted-call       every call is one of them, and the state after it is counted too
 use Prim.Native.Nat.{ℕ, suc, _+_, _*_, _/_, _^_, _<_, _≤_}
-use mathlib.Core.Path.{_≡_, refl, ap, _∙_}
+use mathlib.Core.Path.{_≡_, refl, sym, ap, ap₂, _∙_}
 use mathlib.Core.List.{List, [], _∷_}
 use mathlib.Core.Logic.{_⊎_, inl, inr}
 use native.Mathlib.Decide.{ℕ-discrete}
@@ -17,11 +17,11 @@ use lib.Pow.{pow-pos, high}
 use Rattle.kinds.specs.Frame.{tickBits, ticks}
 use Rattle.kinds.proofs.FrameLaws.{frame-whole}
 use Rattle.sheet.specs.Layout.{AllZero}
-use Rattle.run.specs.Memory.{Memory}
-use Rattle.run.specs.States.{Possible, afterRead, next}
-use Rattle.run.specs.Tool.{rightTick}
-use Rattle.run.specs.declared.State.{State}
-use Rattle.run.proofs.StateLaws.{next-blank, next-part, next-full, next-possible}
+use Rattle.state.specs.States.{Possible, afterRead, next}
+use Rattle.state.specs.declared.State.{State}
+use Rattle.state.proofs.StateLaws.{next-blank, next-part, next-full, next-possible}
+use Rattle.memory.specs.Memory.{Memory}
+use Rattle.call.specs.Tool.{rightTick}
 use Rattle.promise.specs.Series.{Words32, IsCall, callAt, wordsBefore, Stand, Fresh, incoming}
 use Rattle.promise.proofs.SeriesLaws.{call-count, before-more}
 
@@ -73,16 +73,16 @@ module _ {n k : ℕ} (within : k ≤ n) {S : List (List ℕ)} {j : ℕ} {st : St
       → (incoming n S (suc j) ≡ F) × Counted n k S (suc j) after
   counted-by F a h r is e l =
       let frame = frame-of F a e l in
-      (frame, record { possible = next-possible T st (callAt S j) (now .possible); counted = rw (is, frame) e })
+      (frame, record { possible = next-possible T st (callAt S j) (now .possible); counted = e ∙ ap₂ (λ (b c : ℕ). b * 2 ^ n + c * 2 ^ k) (sym frame) (sym (ap (λ (x : State). x .a) is)) })
 
   pub counted-call : j < length S → IsCall k (callAt S j) → (Stays n k S j st ⊎ Turns n k S j st) × Counted n k S (suc j) after
   counted-call reach is = go (callAt S j) refl
     where
       go : (ws : List ℕ) → callAt S j ≡ ws → (Stays n k S j st ⊎ Turns n k S j st) × Counted n k S (suc j) after
       go [] e =
-          let state = ap (next T st) e ∙ next-blank T st (now .possible .incoming) in
-          let (frame, then) = counted-by (incoming n S j) (st .a) _ _ state (omega (arith, before-more S j reach, ap length e, now .counted)) (now .possible .incoming) in
-          (inl (record { frame = frame; reader = rw state; part = λ (some, _). omega (arith, ap length e) }), then)
+          let state = ap (next T st) e ∙ next-blank T st (now .possible .clock .incoming) in
+          let (frame, then) = counted-by (incoming n S j) (st .a) _ _ state (omega (arith, before-more S j reach, ap length e, now .counted)) (now .possible .clock .incoming) in
+          (inl (record { frame = frame; reader = ap (λ (x : State). x .r) state; part = λ (some, _). omega (arith, ap length e) }), then)
       go (w ∷ ws) e =
           let brings : length (callAt S j) ≡ 2 ^ k = call-count (callAt S j) is ∙ ap (λ (l : List ℕ). rightTick k (length l)) e in
           let more : wordsBefore S (suc j) ≡ incoming n S j * 2 ^ n + (st .a + 1) * 2 ^ k = omega (arith, before-more S j reach, brings, now .counted, add-mul (st .a) 1 (2 ^ k)) in
@@ -90,10 +90,10 @@ module _ {n k : ℕ} (within : k ≤ n) {S : List (List ℕ)} {j : ℕ} {st : St
             | yes full ↦
                 let state = ap (next T st) e ∙ next-full T st w ws full in
                 let (frame, then) = counted-by (incoming n S j + 1) 0 _ _ state (omega (arith, more, rw full at more, frame-whole within, add-mul (incoming n S j) 1 (2 ^ n))) (pow-pos (tickBits n k)) in
-                (inr (record { frame = frame; reader = rw state; full = (omega (arith, brings, pow-pos k), full) }), then)
+                (inr (record { frame = frame; reader = ap (λ (x : State). x .r) state; full = (omega (arith, brings, pow-pos k), full) }), then)
             | no part ↦
                 let state = ap (next T st) e ∙ next-part T st w ws part in
-                let l : st .a + 1 < T = omega (arith, part, now .possible .incoming) in
+                let l : st .a + 1 < T = omega (arith, part, now .possible .clock .incoming) in
                 let (frame, then) = counted-by (incoming n S j) (st .a + 1) _ _ state more l in
-                (inl (record { frame = frame; reader = rw state; part = λ (_, last). part last }), then)
+                (inl (record { frame = frame; reader = ap (λ (x : State). x .r) state; part = λ (_, last). part last }), then)
           ]

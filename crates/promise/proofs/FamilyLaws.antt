@@ -17,11 +17,11 @@ use Rattle.kinds.specs.Frame.{ticks, tickOf, portOf}
 use Rattle.kinds.specs.Answers.{Says}
 use Rattle.kinds.specs.Refusal.{given}
 use Rattle.kinds.proofs.FrameLaws.{tick-lt, port-lt}
-use Rattle.run.specs.Memory.{Memory, served}
-use Rattle.run.specs.States.{reading, next}
-use Rattle.run.specs.Call.{Outcome, accessOf, carriedOut}
-use Rattle.run.specs.declared.State.{State}
-use Rattle.run.proofs.CallLaws.{call-done, call-leaving}
+use Rattle.state.specs.States.{reading, next}
+use Rattle.state.specs.declared.State.{State}
+use Rattle.memory.specs.Memory.{Memory, served}
+use Rattle.call.specs.Call.{Outcome, accessOf, carriedOut}
+use Rattle.call.proofs.CallLaws.{call-done, call-leaving}
 use Rattle.promise.specs.Series.{callAt, Series, wordIn, CompletedIn, TickDue, dueCall, duePort, Stand, Fresh, incoming, outgoing, standing, outcomeOf, called, Leaves, RightOver}
 use Rattle.promise.specs.Passes.{Fits}
 use Rattle.promise.proofs.SeriesLaws.{call-count, before-none, word-comes}

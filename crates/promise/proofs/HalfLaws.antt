@@ -24,17 +24,20 @@ use Rattle.kinds.proofs.FrameLaws.{tick-lt, port-lt, word-lt}
 use Rattle.kinds.proofs.FirstLaws.{first-none}
 use Rattle.span.specs.Maps.{Injective, Bijection}
 use Rattle.span.proofs.Counting.{injective-onto}
-use Rattle.run.specs.Memory.{Memory, Filled, put, marked, stored, emptied, wordsAt, served}
-use Rattle.run.specs.Faults.{Clash, SomeFilled, SomeEmpty, faults}
-use Rattle.run.specs.States.{Possible, afterRead, afterWrite, turned, next}
-use Rattle.run.specs.Call.{placeIn, placesOf, readsOf, writesOf, accessOf, call}
-use Rattle.run.specs.Tool.{rightTick}
-use Rattle.run.specs.declared.State.{State}
-use Rattle.run.proofs.MemoryLaws.{words-at, put-nil, put-length}
-use Rattle.run.proofs.PlaceLaws.{places-clash, halves-apart, places-at, places-length, places-below}
-use Rattle.run.proofs.CountLaws.{put-other, Different, put-in}
-use Rattle.run.proofs.StateLaws.{next-possible}
-use Rattle.run.proofs.CallLaws.{call-given}
+use Rattle.state.specs.States.{Possible, afterRead, afterWrite, turned, next}
+use Rattle.state.specs.declared.State.{State}
+use Rattle.state.proofs.StateLaws.{next-possible}
+use Rattle.faults.specs.Marks.{Filled, put, marked}
+use Rattle.faults.specs.Faults.{Clash, SomeFilled, SomeEmpty, faults}
+use Rattle.faults.proofs.MarkLaws.{put-nil, put-length, put-other}
+use Rattle.faults.proofs.FaultLaws.{Different}
+use Rattle.memory.specs.Memory.{Memory, stored, emptied, wordsAt, served}
+use Rattle.memory.proofs.MemoryLaws.{words-at}
+use Rattle.memory.proofs.CountLaws.{put-in}
+use Rattle.call.specs.Call.{placeIn, placesOf, readsOf, writesOf, accessOf, call}
+use Rattle.call.specs.Tool.{rightTick}
+use Rattle.call.proofs.PlaceLaws.{places-clash, halves-apart, places-at, places-length, places-below}
+use Rattle.call.proofs.CallLaws.{call-given}
 use Rattle.promise.specs.Passes.{BanksApart, Fits}
 use Rattle.promise.specs.Series.{Stand, Fresh}
 use Rattle.promise.proofs.CountedLaws.{fresh-possible, Completes}
@@ -219,8 +222,8 @@ module _ {n k : ℕ} (within : k ≤ n) where
     after-both : {st : State} {m : Memory} {ws : List ℕ} → Possible (ticks n k) st → Brings k (st .a) w ws → Halves n k st m f w Q d v
         → Halves n k (afterWrite (afterRead (ticks n k) st) ws) (served (accessOf n k f e st ws) m) f w Q d v
     after-both {st} {ws = ws} ok brings halves = elim (decLt (st .r) (ticks n k)) [
-      | yes busy ↦ rw (lt-ltb (st .r) (ticks n k) busy) (after-write st (st .r + 1) (ok .incoming) (ok .half) ws brings (after-read busy (ok .half) halves))
-      | no idle ↦ rw (le-ltb (st .r) (ticks n k) (omega arith)) (rw put-nil (after-write st (st .r) (ok .incoming) (ok .half) ws brings halves))
+      | yes busy ↦ rw (lt-ltb (st .r) (ticks n k) busy) (after-write st (st .r + 1) (ok .clock .incoming) (ok .half) ws brings (after-read busy (ok .half) halves))
+      | no idle ↦ rw (le-ltb (st .r) (ticks n k) (omega arith)) (rw put-nil (after-write st (st .r) (ok .clock .incoming) (ok .half) ws brings halves))
     ]
 
     turn : {st : State} {m : Memory} → (st .a ≡ ticks n k) × (st .r ≡ ticks n k) × (st .h < 2) → Halves n k st m f w Q d v
@@ -244,11 +247,11 @@ module _ {n k : ℕ} (within : k ≤ n) where
       writes-sound : (ws : List ℕ) → (¬ Clash k (writesOf n k f st ws)) × (¬ SomeFilled (m .marks) (writesOf n k f st ws))
       writes-sound [] = (λ (p, l, _). omega arith, λ (p, l, _). omega arith)
       writes-sound (x ∷ ws) = (
-        no-clash f (new .write-banks) (st .h) (held .possible .incoming),
+        no-clash f (new .write-banks) (st .h) (held .possible .clock .incoming),
         λ (p, l, filled).
             let port : p < 2 ^ k = rw (places-length n k f (st .h) (st .a)) at l in
             filled (rw (places-at n k f (st .h) (st .a) p port)
-            (held .halves .coming (wordAt k (st .a) p) (word-lt within (held .possible .incoming) port) .empty (λ before. omega (arith, high (st .a) k port)))),
+            (held .halves .coming (wordAt k (st .a) p) (word-lt within (held .possible .clock .incoming) port) .empty (λ before. omega (arith, high (st .a) k port)))),
       )
 
       reads-sound : (¬ Clash k (readsOf n k e st)) × (¬ SomeEmpty (m .marks) (readsOf n k e st))
@@ -267,7 +270,7 @@ module _ {n k : ℕ} (within : k ≤ n) where
       pub held-sound : (ws : List ℕ) → call [] n k f e st ws m .refusal ≡ none
       held-sound ws =
           call-given [] n k f e st ws m
-          ∙ first-none (faults k (writesOf n k f st ws) (readsOf n k e st) (m .marks)) .1
+          ∙ first-none (faults k (writesOf n k f st ws) (readsOf n k e st) (m .marks) (m .marks)) .1
           (writes-sound ws .0, (writes-sound ws .1, (reads-sound .0, (reads-sound .1, tt))))
 
       pub held-word : (i : ℕ) → i < 2 ^ n → tickOf k (Q i) ≡ st .r → getD (wordsAt (readsOf n k e st) (m .words)) (portOf k (Q i)) 0 ≡ v i

@@ -23,16 +23,19 @@ use Rattle.kinds.proofs.FirstLaws.{first-none}
 use Rattle.span.specs.Maps.{Injective, Bijection}
 use Rattle.span.proofs.Counting.{apart-injective, injective-onto}
 use Rattle.sheet.specs.Layout.{AllZero}
-use Rattle.run.specs.Memory.{Memory, put, stored, wordsAt, served}
-use Rattle.run.specs.Faults.{Clash, SomeFilled, faults}
-use Rattle.run.specs.States.{next}
-use Rattle.run.specs.Call.{placesOf, readsOf, writesOf, accessOf, Outcome, carriedOut}
-use Rattle.run.specs.declared.State.{State}
-use Rattle.run.proofs.MemoryLaws.{words-at, put-length}
-use Rattle.run.proofs.StateLaws.{read-more, read-idle, next-blank, next-part, next-full}
-use Rattle.run.proofs.CountLaws.{put-other, Different, put-in, apart}
-use Rattle.run.proofs.PlaceLaws.{places-at, places-length, places-clash, places-below}
-use Rattle.run.proofs.CallLaws.{call-given, call-done}
+use Rattle.state.specs.States.{next}
+use Rattle.state.specs.declared.State.{State}
+use Rattle.state.proofs.StateLaws.{read-more, read-idle, next-blank, next-part, next-full}
+use Rattle.faults.specs.Marks.{put}
+use Rattle.faults.specs.Faults.{Clash, SomeFilled, faults}
+use Rattle.faults.proofs.MarkLaws.{put-length, put-other}
+use Rattle.faults.proofs.FaultLaws.{Different, apart}
+use Rattle.memory.specs.Memory.{Memory, stored, wordsAt, served}
+use Rattle.memory.proofs.MemoryLaws.{words-at}
+use Rattle.memory.proofs.CountLaws.{put-in}
+use Rattle.call.specs.Call.{placesOf, readsOf, writesOf, accessOf, Outcome, carriedOut}
+use Rattle.call.proofs.PlaceLaws.{places-at, places-length, places-clash, places-below}
+use Rattle.call.proofs.CallLaws.{call-given, call-done}
 use Rattle.promise.specs.Series.{callAt, Series, dueCall, Stand, Fresh, freshStand, oneFrame, standing, outcomeOf, called, RightOver}
 use Rattle.promise.specs.Passes.{BanksApart, Fits}
 use Rattle.promise.proofs.CountedLaws.{fresh-any}
@@ -131,7 +134,7 @@ module _ (n k : ℕ) (P f g u : ℕ → ℕ) (right : RightOver n k (λ F. P) (o
     done : outcome j ≡ carriedOut n k f g (before j .state) (callAt S j) (before j .memory)
     done = call-done [] n k f g (before j .state) (callAt S j) (before j .memory) none-given
 
-    nothing-wrong : EachReason (λ r. ¬ r .applies) (faults k (writesOf n k f (before j .state) (callAt S j)) (readsOf n k g (before j .state)) (before j .memory .marks))
+    nothing-wrong : EachReason (λ r. ¬ r .applies) (faults k (writesOf n k f (before j .state) (callAt S j)) (readsOf n k g (before j .state)) (before j .memory .marks) (before j .memory .marks))
     nothing-wrong = first-none _ .0 (sym (call-given [] n k f g (before j .state) (callAt S j) (before j .memory)) ∙ none-given)
 
     state-after : {st : State} {ws : List ℕ} → before j .state ≡ st → callAt S j ≡ ws → before (suc j) .state ≡ next T st ws

@@ -7,11 +7,11 @@ use mathlib.Core.Option.{Option, none, some}
 use native.Mathlib.Omega.{arith}
 use Rattle.kinds.specs.declared.Refusal.{Refusal}
 use Rattle.kinds.proofs.FirstLaws.{first-has}
-use Rattle.run.specs.Memory.{Memory}
-use Rattle.run.specs.Faults.{faults}
-use Rattle.run.specs.Call.{readsOf, writesOf, call}
-use Rattle.run.specs.declared.State.{State}
-use Rattle.run.proofs.CallLaws.{call-given}
+use Rattle.state.specs.declared.State.{State}
+use Rattle.faults.specs.Faults.{faults}
+use Rattle.memory.specs.Memory.{Memory}
+use Rattle.call.specs.Call.{readsOf, writesOf, call}
+use Rattle.call.proofs.CallLaws.{call-given}
 use Rattle.promise.specs.Series.{IsFault}
 
 module _ (n k : ℕ) (f g : ℕ → ℕ) (st : State) (ws : List ℕ) (m : Memory) where
@@ -24,5 +24,5 @@ module _ (n k : ℕ) (f g : ℕ → ℕ) (st : State) (ws : List ℕ) (m : Memor
       go : (o : Option Refusal) → refusal ≡ o → o ≡ none
       go none e = refl
       go (some x) e =
-          let t = faults k (writesOf n k f st ws) (readsOf n k g st) (m .marks) in
+          let t = faults k (writesOf n k f st ws) (readsOf n k g st) (m .marks) (m .marks) in
           absurd (no-fault (rw e (first-has (λ r. IsFault (some r)) t (omega arith) (sym (call-given [] n k f g st ws m) ∙ e))))

@@ -19,8 +19,8 @@ use Rattle.span.specs.Maps.{Bijection}
 use Rattle.order.specs.Order.{place, Order, Moved}
 use Rattle.order.proofs.OrderLaws.{order-bijection}
 use Rattle.switches.specs.Cells.{M, N}
-use Rattle.run.specs.Call.{Outcome}
-use Rattle.run.proofs.CallLaws.{call-leaving}
+use Rattle.call.specs.Call.{Outcome}
+use Rattle.call.proofs.CallLaws.{call-leaving}
 use Rattle.promise.specs.Series.{callAt, Series, wordsBefore, wordIn, frame, tickIn, CompletedIn, SamePattern, Stand, Fresh, standingOn, outcomeOn, Leaves, RightOver, Right}
 use Rattle.promise.proofs.SeriesLaws.{before-none, before-more}
 

@@ -11,7 +11,7 @@ use mathlib.Core.Logic.{inl, inr}
 use native.Mathlib.Omega.{arith}
 use lib.ListN.{length, getD, take, length-append, List·getD-append}
 use lib.Seq.{getD-append-add}
-use Rattle.run.specs.Tool.{rightTick}
+use Rattle.call.specs.Tool.{rightTick}
 use Rattle.promise.specs.Series.{Words32, IsCall, callAt, wordsBefore}
 
 pub call-count : {k : ℕ} (ws : List ℕ) → IsCall k ws → length ws ≡ rightTick k (length ws)

@@ -22,14 +22,15 @@ use Rattle.kinds.proofs.FirstLaws.{first-none}
 use Rattle.order.specs.Order.{place}
 use Rattle.sheet.specs.Layout.{AllZero, WellFormed}
 use Rattle.switches.specs.Cells.{M, N}
-use Rattle.run.specs.Memory.{Memory, filledMarks}
-use Rattle.run.specs.States.{Possible}
-use Rattle.run.specs.Call.{Outcome, call}
+use Rattle.state.specs.States.{Possible}
+use Rattle.state.specs.declared.State.{State}
+use Rattle.faults.proofs.MarkLaws.{put-length}
+use Rattle.memory.specs.Memory.{Memory, filledMarks}
+use Rattle.memory.proofs.CountLaws.{zero-marks}
+use Rattle.call.specs.Call.{Outcome, call}
+use Rattle.call.proofs.CallLaws.{call-refused, call-done, call-past, call-leaving}
 use Rattle.run.specs.Tool.{beforeFaults}
-use Rattle.run.specs.declared.State.{State}
-use Rattle.run.proofs.MemoryLaws.{put-length}
-use Rattle.run.proofs.CountLaws.{zero-marks}
-use Rattle.run.proofs.CallLaws.{call-refused, call-done, call-past, call-leaving, sheet-call-possible, sheet-call-filled}
+use Rattle.run.proofs.ToolLaws.{sheet-call-possible, sheet-call-filled}
 use Rattle.promise.specs.Series.{callAt, Series, Stand, Fresh, ifSuccessful, standing, outcomeOf, wordsTaken, wordsHanded, called, ticked, standingOn, outcomeOn, RightOver, Right, RightAsTool}
 use Rattle.promise.proofs.SeriesLaws.{call-count}
 use Rattle.promise.proofs.CountedLaws.{fresh-possible}

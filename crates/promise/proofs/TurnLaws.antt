@@ -11,9 +11,9 @@ use native.Mathlib.Omega.{arith}
 use lib.ListN.{length}
 use lib.Pow.{pow-pos}
 use Rattle.kinds.specs.Frame.{tickBits, ticks}
-use Rattle.run.specs.States.{afterRead, next}
-use Rattle.run.specs.declared.State.{State}
-use Rattle.run.proofs.StateLaws.{read-more, read-idle}
+use Rattle.state.specs.States.{afterRead, next}
+use Rattle.state.specs.declared.State.{State}
+use Rattle.state.proofs.StateLaws.{read-more, read-idle}
 use Rattle.promise.specs.Series.{callAt, Series, CompletedIn, TickDue, incoming}
 use Rattle.promise.proofs.CountedLaws.{Counted, Stays, Turns, counted-call}
 
@@ -53,7 +53,7 @@ module _ {n k : ℕ} (within : k ≤ n) (S : List (List ℕ)) (series : Series k
           reader-after i before ∙ stays .reader ∙ read-more (ticks n k) (st i) (omega (arith, r)) ∙ omega (arith, r),
           stays .frame ∙ frame,
         )
-        go i before r frame (inr turns) = absurd (omega (arith, turns .full .1, counted i (omega arith) .possible .behind, r))
+        go i before r frame (inr turns) = absurd (omega (arith, turns .full .1, counted i (omega arith) .possible .clock .behind, r))
 
   completes-now : (j : ℕ) → j < length S → Turns n k S j (st j) → CompletedIn n S (incoming n S j) j
   completes-now j reach turns = record {

@@ -53,10 +53,10 @@ use Rattle.bits.specs.Image.{AllBelow}
 use Rattle.order.specs.Order.{place}
 use Rattle.sheet.specs.Layout.{AllZero}
 use Rattle.switches.specs.Cells.{M, N}
-use Rattle.run.specs.Memory.{Memory}
-use Rattle.run.specs.Call.{Outcome, call}
+use Rattle.state.specs.declared.State.{State}
+use Rattle.memory.specs.Memory.{Memory}
+use Rattle.call.specs.Call.{Outcome, call}
 use Rattle.run.specs.Tool.{sheetCall}
-use Rattle.run.specs.declared.State.{State}
 
 abbrev pub Words32 : List ℕ → Type 0
 Words32 l = AllBelow (2 ^ 32) l

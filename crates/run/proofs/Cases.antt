@@ -10,26 +10,28 @@ use lib.ListN.{set, replicate}
 use Rattle.kinds.specs.Edition.{edition1, sized?}
 use Rattle.kinds.specs.Frame.{inOrder}
 use Rattle.kinds.specs.Refusal.{given}
-use Rattle.kinds.specs.declared.Refusal.the-variants.{WriteClash, ReadClash}
 use Rattle.kinds.specs.First.{firstOf}
 use Rattle.kinds.specs.Reasons.{rightLengths?}
 use Rattle.kinds.specs.Search.{someBelow, eachBelow}
+use Rattle.kinds.specs.declared.Refusal.the-variants.{WriteClash, ReadClash}
 use Rattle.bits.specs.Image.{image, allBelow?}
 use Rattle.bits.specs.Parity.{parity, dot}
 use Rattle.sheet.specs.Sheet.{stagesIn}
 use Rattle.sheet.specs.Layout.{fromTo?, stageInRange?, eachStage?, inRange?, allZero?, formedSide?, wellFormed?}
 use Rattle.sheet.proofs.Cases.{reversal}
 use Rattle.switches.specs.Stages.{afterStages}
-use Rattle.run.specs.Memory.{Memory, put}
-use Rattle.run.specs.States.{possible?}
-use Rattle.run.specs.Call.{Outcome}
+use Rattle.state.specs.Clocks.{possibleClock?}
+use Rattle.state.specs.States.{possible?}
+use Rattle.state.specs.declared.State.{State}
+use Rattle.faults.specs.Marks.{put}
+use Rattle.memory.specs.Memory.{Memory}
+use Rattle.call.specs.Call.{Outcome}
 use Rattle.run.specs.Tool.{sheetCall}
-use Rattle.run.specs.declared.State.{State}
 
 -- what a call computes with
 computed : Unit {0}
 unfolding firstOf sized? decLe rightLengths? ℕ-discrete stagesIn fromTo? stageInRange? eachStage? allBelow? inRange? allZero? formedSide? wellFormed? eachBelow decLt
-    possible? someBelow image afterStages dot parity ones inOrder put
+    possibleClock? possible? someBelow image afterStages dot parity ones inOrder put
 computed = tt
 
 abbrev zeros : ℕ → List ℕ

@@ -1,11 +1,4 @@
--- Laws of the memory, of the faults, of a call and its table.
-pub mod MemoryLaws
-pub mod PartLaws
-pub mod FaultLaws
+-- Laws of the run: its table, what it answers, and worked cases.
 pub mod TableLaws
-pub mod StateLaws
-pub mod PlaceLaws
-pub mod CountLaws
-pub mod CallLaws
 pub mod ToolLaws
 pub mod Cases

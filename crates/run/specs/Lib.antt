@@ -1,7 +1,2 @@
--- One tick of the run: the memory and its cells, the faults, the state, a call, and the tool.
-pub mod Memory
-pub mod Faults
-pub mod States
-pub mod Call
+-- The run as a tool.
 pub mod Tool
-pub mod Inside

@@ -1,64 +1,46 @@
 -- The run as a tool: a call with a sheet, and what is answered.
---   rightTick k l              the right length beside a lent length l of the words that came: "tick 2^k or 0"
---   runLengths n k came out words marks      the lengths lent to the run beside the sheet's, and the right ones
---   beforeFaults e n k s st ws m out         1, 2, 5 and 10
+--   checkTable e n k s st came out words marks   1, 2, 5 and 10, where the last four are the lengths lent beside the sheet's
+--   Begins e n k s st came out words marks r     the check that a run begins with: r has the first of these that applies, and where 1, 2 and 5 don't, r shows both sides;
+--                              where one of them does, closed ones
+--   beforeFaults e n k s st ws m out         1, 2, 5 and 10, of what a call is lent
 --   sheetCall e n k s st ws m out            a call of the run with the sheet s: 1, 2, 5 and 10 to 14
---   refusalOf a                the refusal that the answer a gives; none where it says done
---   stateAfter st a            the state after a call that was answered a: on a refusal it stays as it came
---   handedOut a                whether a says that a tick was handed out
---   ComesOf o st out a m' out'               the answer a, and the memory m' and the out buffer out' afterwards, are what comes of a call; st and out are the state and the buffer before
---   Ticks e n k s st ws m out a m' out'      the tool: they are what comes of the call with the sheet s
-use Prim.Native.Nat.{ℕ, zero, suc, _+_, _^_}
+--   Ticks e n k s st ws m out a m' out'      the tool: the answer a, and the memory m' and the out buffer out' afterwards, are what comes of the call with the sheet s
+use Prim.Native.Nat.{ℕ}
 use mathlib.Core.Path.{_≡_}
-use mathlib.Core.Bool.{Bool, false}
 use mathlib.Core.List.{List, [], _∷_, _++_}
-use mathlib.Core.Option.{Option, none, some}
+use mathlib.Core.Option.{none, some}
 use lib.ListN.{length}
 use Rattle.kinds.specs.Edition.{Edition}
 use Rattle.kinds.specs.Frame.{ticks}
-use Rattle.kinds.specs.First.{Reason}
+use Rattle.kinds.specs.First.{Reason, firstOf}
+use Rattle.kinds.specs.Refusal.{said}
 use Rattle.kinds.specs.declared.Refusal.{Refusal}
+use Rattle.sheet.specs.Sheet.{writeSide, readSide}
 use Rattle.sheet.specs.Table.{sheetTable}
 use Rattle.switches.specs.Cells.{M, N}
-use Rattle.run.specs.Memory.{Memory, onto}
-use Rattle.run.specs.States.{impossible}
-use Rattle.run.specs.Call.{Outcome, call}
-use Rattle.run.specs.declared.State.{State}
-use Rattle.run.specs.declared.Ticked.{Ticked}
-use Rattle.run.specs.declared.Ticked.the-variants.{Done, Refused}
+use Rattle.maps.specs.Opened.{Shows, closed}
+use Rattle.maps.specs.declared.Opened.{Opened}
+use Rattle.state.specs.States.{impossible}
+use Rattle.state.specs.declared.State.{State}
+use Rattle.memory.specs.Memory.{Memory}
+use Rattle.call.specs.Call.{Outcome, call}
+use Rattle.call.specs.Tool.{runLengths, ComesOf}
+use Rattle.call.specs.declared.Ticked.{Ticked}
 
-abbrev pub rightTick : ℕ → ℕ → ℕ
-rightTick k zero = 0
-rightTick k (suc l) = 2 ^ k
+abbrev pub checkTable : Edition → ℕ → ℕ → List ℕ → State → ℕ → ℕ → ℕ → ℕ → List Reason
+checkTable e n k s st came out words marks = sheetTable e n k s (runLengths n k came out words marks) ++ impossible (ticks n k) st ∷ []
 
-abbrev pub runLengths : ℕ → ℕ → ℕ → ℕ → ℕ → ℕ → List (ℕ × ℕ)
-runLengths n k came out words marks = (came, rightTick k came) ∷ (out, 2 ^ k) ∷ (words, 2 ^ (n + 1)) ∷ (marks, 2 ^ (n + 1)) ∷ []
+pub record Begins (e : Edition) (n k : ℕ) (s : List ℕ) (st : State) (came out words marks : ℕ) (r : Opened) : Type 0 where
+  pub answer : said (r .answer) ≡ firstOf (checkTable e n k s st came out words marks)
+  pub write : firstOf (sheetTable e n k s (runLengths n k came out words marks)) ≡ none → Shows n k (r .write) (writeSide e n k s)
+  pub read : firstOf (sheetTable e n k s (runLengths n k came out words marks)) ≡ none → Shows n k (r .read) (readSide e n k s)
+  pub shut : (x : Refusal) → firstOf (sheetTable e n k s (runLengths n k came out words marks)) ≡ some x → (r .write ≡ closed) × (r .read ≡ closed)
 
 abbrev pub beforeFaults : Edition → ℕ → ℕ → List ℕ → State → List ℕ → Memory → List ℕ → List Reason
-beforeFaults e n k s st ws m out =
-    sheetTable e n k s (runLengths n k (length ws) (length out) (length (m .words)) (length (m .marks))) ++ impossible (ticks n k) st ∷ []
+beforeFaults e n k s st ws m out = checkTable e n k s st (length ws) (length out) (length (m .words)) (length (m .marks))
 
 abbrev pub sheetCall : Edition → ℕ → ℕ → List ℕ → State → List ℕ → Memory → List ℕ → Outcome
 sheetCall e n k s st ws m out = call (beforeFaults e n k s st ws m out) n k (M e n k s) (N e n k s) st ws m
-
-abbrev pub refusalOf : Ticked → Option Refusal
-refusalOf (Done st handed) = none
-refusalOf (Refused x) = some x
-
-abbrev pub stateAfter : State → Ticked → State
-stateAfter st (Done st' handed) = st'
-stateAfter st (Refused x) = st
-
-abbrev pub handedOut : Ticked → Bool
-handedOut (Done st handed) = handed
-handedOut (Refused x) = false
-
-pub record ComesOf (o : Outcome) (st : State) (out : List ℕ) (a : Ticked) (m' : Memory) (out' : List ℕ) : Type 0 where
-  pub refusal : refusalOf a ≡ o .refusal
-  pub state : stateAfter st a ≡ o .state
-  pub handed : handedOut a ≡ o .handed
-  pub memory : m' ≡ o .memory
-  pub buffer : out' ≡ onto (o .leaving) out
 
 abbrev pub Ticks : Edition → ℕ → ℕ → List ℕ → State → List ℕ → Memory → List ℕ → Ticked → Memory → List ℕ → Type 0
 Ticks e n k s st ws m out = ComesOf (sheetCall e n k s st ws m out) st out

@@ -13,10 +13,12 @@ use lib.Seq.{ext-getD, getD-take, getD-drop}
 use Rattle.kinds.specs.Edition.{edition1}
 use Rattle.kinds.specs.Frame.{tickBits, ticks, portOf, inOrder}
 use Rattle.kinds.proofs.FrameLaws.{tick-lt, port-lt, word-lt, in-order-length, in-order-at, in-order-is}
-use Rattle.run.specs.Memory.{Memory, onto}
-use Rattle.run.specs.Tool.{stateAfter, ComesOf, Ticks}
-use Rattle.run.specs.declared.State.{State}
-use Rattle.run.specs.declared.Ticked.{Ticked}
+use Rattle.memory.specs.Memory.{Memory}
+use Rattle.kinds.specs.Answers.{onto}
+use Rattle.state.specs.declared.State.{State}
+use Rattle.call.specs.Tool.{stateAfter, ComesOf}
+use Rattle.call.specs.declared.Ticked.{Ticked}
+use Rattle.run.specs.Tool.{Ticks}
 use Rattle.promise.specs.Series.{callAt, Series, wordIn, frame, tickIn, standing, outcomeOn, ticked, freshStand}
 use Rattle.promise.proofs.OneFrame.{one-frame-length, came, came-at, completed, word-in, one-frame-series}
 use Rattle.promise.proofs.OneRun.{is-fresh}

@@ -17,10 +17,11 @@ use lib.Pow.{pow-pos}
 use Rattle.kinds.specs.Edition.{edition1}
 use Rattle.kinds.specs.Frame.{ticks}
 use Rattle.kinds.proofs.FrameLaws.{frame-whole}
-use Rattle.run.specs.Memory.{onto}
-use Rattle.run.specs.Tool.{stateAfter, Ticks}
-use Rattle.run.specs.declared.State.{State}
-use Rattle.run.specs.declared.Ticked.{Ticked}
+use Rattle.kinds.specs.Answers.{onto}
+use Rattle.state.specs.declared.State.{State}
+use Rattle.call.specs.Tool.{stateAfter}
+use Rattle.call.specs.declared.Ticked.{Ticked}
+use Rattle.run.specs.Tool.{Ticks}
 use Rattle.promise.specs.Series.{callAt}
 use Rattle.trial.specs.Trial.{trialCalls}
 use Rattle.trial.specs.Inside.{leavesIn, Here, Runnable}

@@ -14,7 +14,7 @@ use lib.ListN.{length, getD, replicate}
 use Rattle.kinds.specs.Edition.{edition1, Sized}
 use Rattle.kinds.specs.Frame.{ticks, tickOf, portOf, inOrder}
 use Rattle.order.specs.Order.{Order}
-use Rattle.run.specs.declared.State.{State}
+use Rattle.state.specs.declared.State.{State}
 use Rattle.promise.specs.Series.{Stand, freshStand, standingOn, outcomeOn}
 use Rattle.plan.specs.Tool.{IsPlanned}
 use Rattle.trial.specs.Trial.{trialCalls}

@@ -7,12 +7,12 @@ ghost use Rattle.kinds.specs.Answers.{Says};
 ghost use Rattle.kinds.specs.Edition.{edition1, sheetPlaces};
 ghost use Rattle.kinds.specs.Frame.{ticks, inOrder};
 ghost use Rattle.kinds.specs.Reasons.{RightLengths};
-ghost use Rattle.run.specs.Tool.{stateAfter};
+ghost use Rattle.call.specs.Tool.{stateAfter};
 ghost use Rattle.trial.specs.Trial.{Tries};
 ghost use Rattle.trial.specs.Inside.{handedOut, Here, Numbered, Entering, Leaving};
+use call::Ticked;
 use kinds::Answer;
-use run::State;
-use run::Ticked;
+use state::State;
 
 // Room for the ports of a tick, and for the two halves of the memory.
 const PORTS: usize = 1 << kinds::MOST_K;

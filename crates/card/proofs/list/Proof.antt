@@ -15,7 +15,7 @@ use Rattle.kinds.proofs.AnswerLaws.{said-before, refuses, does}
 use Rattle.kinds.proofs.TruthLaws.{denied}
 use Rattle.order.specs.Order.{Order}
 use Rattle.order.proofs.TableLaws.{order-sound}
-use Rattle.run.specs.Memory.{onto}
+use Rattle.kinds.specs.Answers.{onto}
 use Rattle.sheet.proofs.LayLaws.{padded-length}
 use Rattle.card.specs.Card.{mostColumns, columnsOn, unreadable, cardTable}
 use Rattle.card.specs.Listing.{listing}

@@ -14,7 +14,7 @@ use Rattle.kinds.proofs.FrameLaws.{in-order-length}
 use Rattle.order.specs.Order.{Order}
 use Rattle.order.proofs.TableLaws.{order-sound}
 use Rattle.sheet.specs.Table.{sheetLengths}
-use Rattle.run.proofs.PartLaws.{part-length, part-back}
+use Rattle.kinds.proofs.PartLaws.{part-length, part-back}
 use Rattle.plan.specs.Planned.{plannedSheet}
 use Rattle.trial.specs.Trial.{lampOrder}
 use Rattle.card.proofs.RoomLaws.{listing-fits}

@@ -12,7 +12,7 @@ use Rattle.kinds.specs.First.{firstOf}
 use Rattle.kinds.specs.Refusal.{said}
 use Rattle.kinds.specs.declared.Refusal.{Refusal}
 use Rattle.text.specs.Decimal.{codes}
-use Rattle.run.specs.Memory.{onto}
+use Rattle.kinds.specs.Answers.{onto}
 use Rattle.card.specs.Card.{cardTable}
 use Rattle.card.specs.Listing.{line}
 use Rattle.card.specs.Tool.{room, listLengths, textFor}

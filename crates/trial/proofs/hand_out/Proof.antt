@@ -11,10 +11,11 @@ use lib.Pow.{pow-pos, high, low}
 use Rattle.kinds.specs.Edition.{edition1}
 use Rattle.kinds.specs.Frame.{ticks, tickOf, portOf}
 use Rattle.kinds.proofs.FrameLaws.{in-order-length, in-order-is}
-use Rattle.run.specs.Memory.{onto}
-use Rattle.run.specs.Tool.{stateAfter, Ticks}
-use Rattle.run.specs.declared.State.{State}
-use Rattle.run.specs.declared.Ticked.{Ticked}
+use Rattle.kinds.specs.Answers.{onto}
+use Rattle.state.specs.declared.State.{State}
+use Rattle.call.specs.Tool.{stateAfter}
+use Rattle.call.specs.declared.Ticked.{Ticked}
+use Rattle.run.specs.Tool.{Ticks}
 use Rattle.promise.proofs.OneFrame.{blank-call}
 use Rattle.trial.specs.Inside.{leavesIn, handedOut, Leaving}
 use Rattle.trial.proofs.CallLaws.{tick-leaves}

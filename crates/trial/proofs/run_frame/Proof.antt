@@ -9,7 +9,7 @@ use lib.ListN.{length, take, drop, replicate, length-append, length-replicate, r
 use lib.Pow.{pow-mono, pow-add}
 use lib.Seq.{take-at}
 use Rattle.kinds.proofs.FrameLaws.{in-order-length}
-use Rattle.run.proofs.PartLaws.{part-length, part-back}
+use Rattle.kinds.proofs.PartLaws.{part-length, part-back}
 use Rattle.trial.specs.Inside.{Runnable}
 use Rattle.trial.proofs.run_frame.Statement.{statement}
 use Rattle.trial.proofs.run_frame.Tie as tie

@@ -10,9 +10,10 @@ use lib.Pow.{pow-pos}
 use Rattle.kinds.specs.Edition.{edition1}
 use Rattle.kinds.specs.Frame.{ticks, inOrder}
 use Rattle.kinds.proofs.FrameLaws.{in-order-length}
-use Rattle.run.specs.Tool.{stateAfter, Ticks}
-use Rattle.run.specs.declared.State.{State}
-use Rattle.run.specs.declared.Ticked.{Ticked}
+use Rattle.state.specs.declared.State.{State}
+use Rattle.call.specs.Tool.{stateAfter}
+use Rattle.call.specs.declared.Ticked.{Ticked}
+use Rattle.run.specs.Tool.{Ticks}
 use Rattle.promise.specs.Series.{callAt, standing}
 use Rattle.trial.specs.Trial.{trialCalls}
 use Rattle.trial.specs.Inside.{Entering}

@@ -1,0 +1,91 @@
+-- `call::lengths_fit` meets its contract. No length of 64 bits is 2^65 or more.
+use Prim.Native.Nat.{ℕ, zero, suc, _+_, _^_}
+use mathlib.Core.Path.{_≡_, refl, sym, _∙_}
+use mathlib.Core.List.{[], _∷_}
+use mathlib.Core.Logic.{_≢_}
+use borrow.Author.Needs.{needs}
+use borrow.Author.Tests.{not-true, not-false}
+use native.Mathlib.Omega.{arith}
+use lib.Pow.{pow-mono}
+use Rattle.kinds.specs.Reasons.{RightLengths}
+use Rattle.kinds.proofs.TruthLaws.{says-no, says-yes, denied}
+use Rattle.call.specs.Tool.{rightTick}
+use Rattle.call.proofs.lengths_fit.Statement.{statement}
+use Rattle.call.proofs.lengths_fit.Tie as tie
+
+blank : (k l : ℕ) → l ≡ 0 → l ≡ rightTick k l
+blank k zero e = refl
+blank k (suc l) e = absurd (omega arith)
+
+words-came : (k l : ℕ) → l ≢ 0 → rightTick k l ≡ 2 ^ k
+words-came k zero n = absurd (n refl)
+words-came k (suc l) n = refl
+
+-- the lengths but that of the tick
+module _ (c : tie.Else4) where
+  abbrev start : tie.Start
+  start = c .before .before .before .before .before .before .before
+
+  fitting : RightLengths ((start .args .out, 2 ^ start .args .k) ∷ (start .args .words, 2 ^ (start .args .n + 1)) ∷ (start .args .marks, 2 ^ (start .args .n + 1)) ∷ [])
+  fitting = (
+    c .before .is-two-to3 .ensures .0 (not-false _ (c .if4 .left)),
+    (
+      c .before .before .before .before .before .is-two-to .ensures .0 (not-false _ (c .before .before .before .before .if2 .left)),
+      (c .before .before .before .is-two-to2 .ensures .0 (not-false _ (c .before .before .if3 .left)), tt),
+    ),
+  )
+
+returns : tie.Need-returns
+returns c = says-no (λ s. omega (arith, s .1 .1 .0, pow-mono {i = 64} {j = c .before .args .n + 1} (omega arith), c .before .fits .words))
+
+add-is-two-to : tie.Need-add-is-two-to
+add-is-two-to c = search needs
+
+is-two-to-requires : tie.Need-is-two-to-requires
+is-two-to-requires c κs = search needs
+
+returns-2 : tie.Need-returns-2
+returns-2 c = says-no (λ s. denied (c .before .is-two-to .ensures) (not-true _ (c .if2 .taken)) (s .1 .1 .0))
+
+add-is-two-to-2 : tie.Need-add-is-two-to-2
+add-is-two-to-2 c = search needs
+
+is-two-to-requires-2 : tie.Need-is-two-to-requires-2
+is-two-to-requires-2 c κs = search needs
+
+returns-3 : tie.Need-returns-3
+returns-3 c = says-no (λ s. denied (c .before .is-two-to2 .ensures) (not-true _ (c .if3 .taken)) (s .1 .1 .1 .0))
+
+is-two-to-requires-3 : tie.Need-is-two-to-requires-3
+is-two-to-requires-3 c κs = search needs
+
+returns-4 : tie.Need-returns-4
+returns-4 c = says-no (λ s. denied (c .before .is-two-to3 .ensures) (not-true _ (c .if4 .taken)) (s .1 .0))
+
+returns-5 : tie.Need-returns-5
+returns-5 c = says-yes (blank _ _ (c .if5 .taken), fitting (c .before))
+
+is-two-to-requires-4 : tie.Need-is-two-to-requires-4
+is-two-to-requires-4 c κs = search needs
+
+returns-6 : tie.Need-returns-6
+returns-6 c =
+    let right = words-came _ _ (c .before .if5 .left) in
+    (λ e. (c .is-two-to4 .ensures .0 e ∙ sym right, fitting (c .before .before)), λ s. c .is-two-to4 .ensures .1 (s .0 ∙ right))
+
+pub lengths-fit-spec : {M : Type 1} → statement M
+lengths-fit-spec =
+    tie.close
+    (tie.spec
+    returns
+    add-is-two-to
+    is-two-to-requires
+    returns-2
+    add-is-two-to-2
+    is-two-to-requires-2
+    returns-3
+    is-two-to-requires-3
+    returns-4
+    returns-5
+    is-two-to-requires-4
+    returns-6)

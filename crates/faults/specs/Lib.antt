@@ -1,0 +1,4 @@
+-- The marks of a memory, and when a call must not go on.
+pub mod Marks
+pub mod Faults
+pub mod Inside

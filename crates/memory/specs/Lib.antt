@@ -1,0 +1,3 @@
+-- The memory, and a call that is served over any cells.
+pub mod Memory
+pub mod Serving

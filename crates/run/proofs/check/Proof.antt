@@ -1,0 +1,150 @@
+-- `run::check` meets its contract. Where the sheet is opened nothing is left but 10.
+use Prim.Native.Nat.{ℕ}
+use mathlib.Core.Path.{_≡_, sym, ap, _∙_}
+use mathlib.Core.Bool.{Bool}
+use mathlib.Core.List.{List, [], _∷_, _++_}
+use mathlib.Core.Option.{none}
+use borrow.Author.Needs.{needs}
+use borrow.Author.Tests.{not-true, not-false}
+use native.Mathlib.Omega.{arith}
+use Rattle.kinds.specs.Answers.{Says}
+use Rattle.kinds.specs.Edition.{edition1, Sized}
+use Rattle.kinds.specs.Frame.{ticks}
+use Rattle.kinds.specs.First.{Reason, firstOf}
+use Rattle.kinds.specs.Reasons.{RightLengths}
+use Rattle.kinds.specs.Refusal.{said}
+use Rattle.kinds.specs.declared.Answer.{Answer}
+use Rattle.kinds.specs.declared.Answer.the-variants.{Done, Refused}
+use Rattle.kinds.specs.declared.Refusal.the-variants.{State as Impossible}
+use Rattle.kinds.proofs.TruthLaws.{denied}
+use Rattle.kinds.proofs.FirstLaws.{first-nil, first-take, first-skip, first-append, first-none}
+use Rattle.kinds.proofs.AnswerLaws.{said-same, said-before}
+use Rattle.sheet.specs.Table.{sheetTable}
+use Rattle.sheet.proofs.TableLaws.{sheet-sound}
+use Rattle.maps.specs.Opened.{Opens}
+use Rattle.maps.specs.declared.Opened.{Opened}
+use Rattle.state.specs.States.{Possible, impossible}
+use Rattle.state.specs.declared.State.{State}
+use Rattle.call.specs.Tool.{runLengths}
+use Rattle.run.specs.Tool.{Begins}
+use Rattle.run.proofs.check.Statement.{statement}
+use Rattle.run.proofs.check.Tie as tie
+
+module _ (n k : ℕ) (s : List ℕ) (st : State) (came out words marks : ℕ) (fits : Bool) (o : Opened)
+    (right : Says fits (RightLengths (runLengths n k came out words marks))) (opens : Opens edition1 n k s fits o) where
+  abbrev lengths : List (ℕ × ℕ)
+  lengths = runLengths n k came out words marks
+
+  abbrev table : List Reason
+  table = sheetTable edition1 n k s lengths
+
+  given : said (o .answer) ≡ firstOf table
+  given = opens .answer lengths right
+
+  begins : (r : Answer) → said r ≡ firstOf (table ++ impossible (ticks n k) st ∷ [])
+      → Begins edition1 n k s st came out words marks (record { answer = r; write = o .write; read = o .read })
+  begins r answer = record {
+    answer = answer;
+    write = λ e. opens .write (said-same (o .answer) Done (given ∙ e));
+    read = λ e. opens .read (said-same (o .answer) Done (given ∙ e));
+    shut = λ x e. opens .refused x (said-same (o .answer) (Refused x) (given ∙ e));
+  }
+
+  begins-refused : ¬ (o .answer ≡ Done) → Begins edition1 n k s st came out words marks o
+  begins-refused refuses = begins (o .answer) (said-before table _ (o .answer) refuses given)
+
+  module _ (done : o .answer ≡ Done) where
+    none-given : firstOf table ≡ none
+    none-given = sym given ∙ ap said done
+
+    sized : Sized edition1 n k
+    sized = sheet-sound edition1 n k s lengths .0 none-given .0
+
+    left : firstOf (table ++ impossible (ticks n k) st ∷ []) ≡ firstOf (impossible (ticks n k) st ∷ [])
+    left = first-append table _ (first-none table .0 none-given)
+
+    begins-impossible : ¬ Possible (ticks n k) st → Begins edition1 n k s st came out words marks (record { answer = Refused Impossible; write = o .write; read = o .read })
+    begins-impossible not = begins (Refused Impossible) (sym (left ∙ first-take _ _ not))
+
+    begins-done : Possible (ticks n k) st → Begins edition1 n k s st came out words marks o
+    begins-done possible = begins (o .answer) (ap said done ∙ sym (left ∙ first-skip _ _ (λ not. not possible) ∙ first-nil))
+
+lengths-fit-requires : tie.Need-lengths-fit-requires
+lengths-fit-requires c κs = search needs
+
+open-requires : tie.Need-open-requires
+open-requires c κs = search needs
+
+is-done-requires : tie.Need-is-done-requires
+is-done-requires c κs = search needs
+
+module _ (c : tie.After-open) where
+  abbrev start : tie.Start
+  start = c .before .before .before
+
+returns : tie.Need-returns
+returns c =
+    let opened = c .before .before in
+    let args = start opened .args in
+    begins-refused (args .n) (args .k) (args .sheet .now) (args .state) (args .came) (args .out) (args .words) (args .marks) _ (opened .«open» .result)
+    (opened .before .lengths-fit .ensures) (opened .«open» .ensures) (denied (c .before .is-done .ensures) (not-true _ (c .if1 .taken)))
+
+module _ (c : tie.Else1) where
+  abbrev at : tie.After-open
+  at = c .before .before
+
+  done : at .«open» .result .answer ≡ Done
+  done = c .before .is-done .ensures .0 (not-false _ (c .if1 .left))
+
+  sizes : Sized edition1 (start at .args .n) (start at .args .k)
+  sizes =
+      let args = start at .args in
+      sized (args .n) (args .k) (args .sheet .now) (args .state) (args .came) (args .out) (args .words) (args .marks) _ (at .«open» .result)
+      (at .before .lengths-fit .ensures) (at .«open» .ensures) done
+
+sub-two-to : tie.Need-sub-two-to
+sub-two-to c = omega (arith, sizes c .most)
+
+two-to-requires : tie.Need-two-to-requires
+two-to-requires c κs = search needs
+
+possible-requires : tie.Need-possible-requires
+possible-requires c κs = search needs
+
+module _ (c : tie.After-two-to) where
+  frame-ticks : c .two-to .result ≡ ticks (start (at (c .before)) .args .n) (start (at (c .before)) .args .k)
+  frame-ticks = c .two-to .ensures .fits (omega (arith, sizes (c .before) .frame .most))
+
+returns-2 : tie.Need-returns-2
+returns-2 c =
+    let tested = c .before .before .before in
+    let passed = tested .before .before in
+    let opened = at passed in
+    let args = start opened .args in
+    begins-impossible (args .n) (args .k) (args .sheet .now) (args .state) (args .came) (args .out) (args .words) (args .marks) _ (opened .«open» .result)
+    (opened .before .lengths-fit .ensures) (opened .«open» .ensures) (done passed)
+    (rw (frame-ticks (tested .before)) at (denied (tested .possible .ensures) (not-true _ (c .before .before .if2 .taken))))
+
+returns-3 : tie.Need-returns-3
+returns-3 c =
+    let tested = c .before in
+    let passed = tested .before .before in
+    let opened = at passed in
+    let args = start opened .args in
+    begins-done (args .n) (args .k) (args .sheet .now) (args .state) (args .came) (args .out) (args .words) (args .marks) _ (opened .«open» .result)
+    (opened .before .lengths-fit .ensures) (opened .«open» .ensures) (done passed)
+    (rw (frame-ticks (tested .before)) at (tested .possible .ensures .0 (not-false _ (c .if2 .left))))
+
+pub check-spec : {M : Type 1} → statement M
+check-spec =
+    tie.close
+    (tie.spec
+    lengths-fit-requires
+    open-requires
+    is-done-requires
+    returns
+    sub-two-to
+    two-to-requires
+    possible-requires
+    returns-2
+    returns-3)

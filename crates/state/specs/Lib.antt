@@ -1,0 +1,3 @@
+-- The clock of a run, and the state of the run of a sheet.
+pub mod Clocks
+pub mod States

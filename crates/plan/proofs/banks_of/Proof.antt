@@ -8,7 +8,7 @@ use borrow.Author.Needs.{needs}
 use mir.Facts.{fits-widen}
 use lib.Pow.{pow-pos}
 use lib.ListN.{length, length-map}
-use Rattle.sheet.proofs.FillLaws.{Filled, fill-none, fill-value, fill-all}
+use Rattle.bits.proofs.FillLaws.{Filled, fill-none, fill-value, fill-all}
 use Rattle.maps.specs.Opened.{openWidth}
 use Rattle.switches.proofs.StageLaws.{after-lt}
 use Rattle.plan.specs.Inside.{bankThrough}

@@ -6,7 +6,7 @@ use native.Mathlib.Omega.{arith}
 use borrow.Author.Needs.{needs}
 use lib.ListN.{length, length-map}
 use Rattle.kinds.specs.Frame.{tickOf}
-use Rattle.sheet.proofs.FillLaws.{Filled, fill-none, fill-value, fill-all}
+use Rattle.bits.proofs.FillLaws.{Filled, fill-none, fill-value, fill-all}
 use Rattle.maps.specs.Opened.{openWidth}
 use Rattle.plan.proofs.ticks_of.Statement.{statement}
 use Rattle.plan.proofs.ticks_of.Tie as tie

@@ -6,7 +6,7 @@
 --   plannable         done, everything is sound
 --   with-before       refused, it is the refusal of the sheet with given read stages too
 --   with-out          done, and a stage is out of its range: 5
---   with-in           done, and all are in range: nothing is refused
+--   with-in           done, and all are in range: so is the answer, once the sheet is written
 --   with-right        the sheet with given read stages is right for the order, if the wiring that they leave sends no two ports to one bank
 use Prim.Native.Nat.{ℕ, _≤_}
 use mathlib.Core.Path.{_≡_, sym, ap, _∙_}
@@ -16,12 +16,13 @@ use native.Mathlib.Omega.{arith}
 use lib.ListN.{length}
 use Rattle.kinds.specs.Edition.{Edition, edition1, Sized, sized?, sheetPlaces}
 use Rattle.kinds.specs.First.{firstOf}
+use Rattle.kinds.specs.Answers.{Answers}
 use Rattle.kinds.specs.Refusal.{said}
 use Rattle.kinds.specs.declared.Answer.{Answer}
 use Rattle.kinds.specs.declared.Answer.the-variants.{Done}
 use Rattle.kinds.specs.declared.Refusal.the-variants.{Layout}
 use Rattle.kinds.proofs.FirstLaws.{first-nil, first-take, first-skip, first-none, first-append}
-use Rattle.kinds.proofs.AnswerLaws.{said-same, said-before, done-by, answers-done, answers-same, answers-agree}
+use Rattle.kinds.proofs.AnswerLaws.{said-same, said-before, does, done-by, answers-done, answers-same, answers-agree}
 use Rattle.order.specs.Order.{Order}
 use Rattle.order.proofs.TableLaws.{order-sound}
 use Rattle.sheet.specs.Sheet.{Stage}
@@ -67,8 +68,9 @@ module _ (n k : ℕ) (C s : List ℕ) {a : Answer} (says : said a ≡ firstOf (p
     pub with-out : a ≡ Done → ¬ StagesInRange n k ss → firstOf (withTable edition1 n k ss C s) ≡ some Layout
     with-out done out = passed done ∙ first-take (outOfRange n k ss) [] out
 
-    pub with-in : a ≡ Done → StagesInRange n k ss → said a ≡ firstOf (withTable edition1 n k ss C s)
-    with-in done range = ap said done ∙ sym (passed done ∙ first-skip (outOfRange n k ss) [] (λ out. out range) ∙ first-nil)
+    pub with-in : a ≡ Done → StagesInRange n k ss → {s' : List ℕ} → s' ≡ sheetWith edition1 n k ss C
+        → Answers (withTable edition1 n k ss C s) (said a) (s' ≡ sheetWith edition1 n k ss C) (s' ≡ s)
+    with-in done range = does done (ap said done ∙ sym (passed done ∙ first-skip (outOfRange n k ss) [] (λ out. out range) ∙ first-nil))
 
 pub with-right : {e : Edition} {n k : ℕ} {C : List ℕ} (ss : List Stage) → Sized e n k → Order n C → e .most-k ≤ e .most-stages
     → StagesInRange n k ss → length ss ≤ e .most-stages → Wires k ss C → Right e n k C (sheetWith e n k ss C)

@@ -13,7 +13,7 @@ use Rattle.kinds.specs.Refusal.{said}
 use Rattle.kinds.specs.First.{firstOf}
 use Rattle.kinds.specs.declared.Answer.the-variants.{Done}
 use Rattle.kinds.proofs.TruthLaws.{denied}
-use Rattle.kinds.proofs.AnswerLaws.{one-length, refused-by, refuses, does}
+use Rattle.kinds.proofs.AnswerLaws.{one-length, refused-by, refuses}
 use Rattle.bits.specs.Padded.{padded}
 use Rattle.sheet.specs.Sheet.{Stage, stagesIn, flat}
 use Rattle.sheet.specs.Layout.{StageInRange, EachStage}
@@ -127,7 +127,7 @@ returns-3 c = λ ss shows.
     let j = c .before .before .before .before .before in
     let d = checked j in
     let range = judged j ss shows .0 (not-false _ (c .before .before .before .before .if2 .left)) in
-    does (done d (yes-done j)) (with-in (n d) (k d) (C d) (sheet d) (says d) ss (done d (yes-done j)) range) (c .before .before .write-sheet .ensures ss shows range)
+    with-in (n d) (k d) (C d) (sheet d) (says d) ss (done d (yes-done j)) range (c .before .before .write-sheet .ensures ss shows range)
 
 pub plan-with-spec : {M : Type 1} → statement M
 plan-with-spec =

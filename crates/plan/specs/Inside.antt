@@ -1,4 +1,5 @@
 -- What the functions inside the crate promise one another.
+--   SaysInRange n k o b      b says whether whichever stages o shows are in range
 --   Ordered n k C            sizes and order are sound
 --   Plannable n k C s        and s has all places of a sheet
 --   ReadRoom n k l           sizes are sound, and l is all places of a side
@@ -10,8 +11,10 @@
 --   drawn k G C              the addresses and the banks of the places C there, with zeros after them
 use Prim.Native.Nat.{ℕ}
 use mathlib.Core.Path.{_≡_}
+use mathlib.Core.Bool.{Bool}
 use mathlib.Core.List.{List, map}
 use lib.ListN.{length}
+use Rattle.kinds.specs.Answers.{Says}
 use Rattle.kinds.specs.Edition.{edition1, Sized, sidePlaces, sheetPlaces}
 use Rattle.kinds.specs.Frame.{tickOf, portOf}
 use Rattle.bits.specs.Padded.{padded}
@@ -22,6 +25,9 @@ use Rattle.lay.specs.Staged.{Shows}
 use Rattle.lay.specs.declared.Stages.{Stages}
 use Rattle.plan.specs.Planned.{StagesInRange, readWith, writeWith, sheetWith}
 use Rattle.plan.specs.declared.Cells.{Cells}
+
+abbrev pub SaysInRange : ℕ → ℕ → Stages → Bool → Type 0
+SaysInRange n k o b = (ss : List Stage) → Shows o ss → Says b (StagesInRange n k ss)
 
 pub record Ordered (n k : ℕ) (C : List ℕ) : Type 0 where
   pub sized : Sized edition1 n k

@@ -2,14 +2,14 @@
 ghost use mathlib.Core.Path.{_≡_};
 ghost use Prim.Native.Nat.{_≤_};
 ghost use lib.ListN.{length, take};
-ghost use Rattle.kinds.specs.Edition.{edition1};
+ghost use Rattle.kinds.specs.Edition.{edition1, Sized};
 ghost use Rattle.kinds.specs.Frame.{tickOf};
 ghost use Rattle.bits.specs.Padded.{arrayWidth};
 ghost use Rattle.switches.specs.Written.{keptStages};
 ghost use Rattle.lay.specs.Staged.{staged};
 ghost use Rattle.plan.specs.Planned.{readStages};
 ghost use Rattle.plan.specs.Tool.{Plans, PlansWith};
-ghost use Rattle.plan.specs.Inside.{Ordered, Plannable, ReadRoom, WriteRoom, Writes, LaysRead, LaysWrite, bankThrough, drawn};
+ghost use Rattle.plan.specs.Inside.{SaysInRange, Ordered, Plannable, ReadRoom, WriteRoom, Writes, LaysRead, LaysWrite, bankThrough, drawn};
 use kinds::Addr;
 use kinds::Answer;
 use kinds::Bank;
@@ -40,20 +40,28 @@ pub fn plan_with(n: u32, k: u32, columns: &[u16], read: Stages, sheet: &mut [u16
 {
     let fits = sheet.len() == sheet::SHEET;
     let answer = order::check_with_k(n, k, columns, fits);
-    let done = kinds::is_done(answer);
-    if !done {
+    let sound = kinds::is_done(answer);
+    if !sound {
         return answer;
     }
-    let numbers = read.numbers();
-    let count = read.count();
-    let ports = bits::two_to(k);
-    let ticks = bits::two_to(n - k);
-    let formed = sheet::stages_formed(&numbers, count, ports, ticks);
+    let formed = in_range(n, k, read);
     if !formed {
         return Answer::Refused(Refusal::Layout);
     }
     write_sheet(n, k, columns, read, sheet);
     answer
+}
+
+// Whether each direction is from 1 to 2^k - 1, each control from 1 to 2^t - 1.
+fn in_range(n: u32, k: u32, stages: Stages) -> bool
+    requires { ⌜ Sized edition1 n k ⌝ }
+    ensures { λ r. ⌜ SaysInRange n k stages r ⌝ }
+{
+    let numbers = stages.numbers();
+    let count = stages.count();
+    let ports = bits::two_to(k);
+    let ticks = bits::two_to(n - k);
+    sheet::stages_formed(&numbers, count, ports, ticks)
 }
 
 // The rows of P1 and then those of P3 are the rows of the first k columns, and one scan goes over both: on the ports that P1 sends to 0, the sums of rows that vanish

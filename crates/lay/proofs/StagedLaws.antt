@@ -17,4 +17,3 @@ shown-part ss m e = padded-part arrayWidth (flat ss) (2 * m) (omega (arith, flat
 
 pub shown-read : (ss : List Stage) → stagesIn (length ss) (padded (flat ss)) ≡ ss
 shown-read ss = same-stages (length ss) (padded (flat ss)) (flat ss) (padded-at arrayWidth (flat ss)) ∙ flat-stages ss
-

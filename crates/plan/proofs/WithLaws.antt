@@ -53,7 +53,6 @@ with-read-layable e n k ss within range few = record {
   };
 }
 
--- a wiring that sends no two ports to one bank sends only port 0 to bank 0
 pub wires-vanish : (k : ℕ) (ss : List Stage) (C : List ℕ) → Wires k ss C → (p : ℕ) → p < 2 ^ k → wiringWith k ss C p ≡ 0 → p ≡ 0
 wires-vanish k ss C wires p h e = wires p 0 h (pow-pos k) (e ∙ sym at-zero)
   where
@@ -77,10 +76,10 @@ module _ {e : Edition} {n k : ℕ} {C : List ℕ} (sized : Sized e n k) (order :
   read = cellOf k (readWith n k ss)
 
   abbrev added : ℕ → ℕ
-  added = selected (ss)
+  added = selected ss
 
   read-bank : (c p : ℕ) → p < 2 ^ k → bankAt (readWith n k ss) c p ≡ bitXor p (added c)
-  read-bank c p h = stages-sum (ss) c (image (columns k (λ p. p)) p) ∙ ap (λ (b : ℕ). bitXor b (added c)) (image-identity k p h)
+  read-bank c p h = stages-sum ss c (image (columns k (λ p. p)) p) ∙ ap (λ (b : ℕ). bitXor b (added c)) (image-identity k p h)
 
   pub with-read-map : (c p : ℕ) → c < ticks n k → p < 2 ^ k → cellAt k (readWith n k ss) c p ≡ wordAt k c (bitXor p (added c))
   with-read-map c p tick port =

@@ -99,12 +99,7 @@ fn lay_read_side(n: u32, k: u32, read: Stages, side: &mut [u16])
     let word_bits = n as usize;
     let addresses = rows::unit_columns(port_bits, word_bits);
     let wiring = rows::unit_columns(0, port_bits);
-    lay::lay_out(
-        &addresses[0..word_bits],
-        &wiring[0..port_bits],
-        read,
-        side,
-    );
+    lay::lay_out(&addresses[0..word_bits], &wiring[0..port_bits], read, side);
 }
 
 // M = N P, column by column: the cell that the place is read from. The banks of the first k are the wiring.
@@ -120,12 +115,7 @@ fn lay_write_side(n: u32, k: u32, columns: &[u16], read: Stages, side: &mut [u16
     let addresses = cells.addresses;
     let banks = cells.banks;
     let write = kept_stages(&banks[port_bits..word_bits]);
-    lay::lay_out(
-        &addresses[0..word_bits],
-        &banks[0..port_bits],
-        write,
-        side,
-    );
+    lay::lay_out(&addresses[0..word_bits], &banks[0..port_bits], write, side);
 }
 
 struct Cell {
@@ -165,10 +155,7 @@ fn cells_of(places: &[u16], k: u32, stages: &[u16]) -> Cells
         banks[j] = cell.bank.0 as u16;
         j += 1;
     }
-    Cells {
-        addresses,
-        banks,
-    }
+    Cells { addresses, banks }
 }
 
 // "A stage's direction is a kept column, and bit j of its control says whether that column is in the sum for tick bit j" (01).

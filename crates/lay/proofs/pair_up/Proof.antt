@@ -39,9 +39,9 @@ module _ {ds cs : List ℕ} {count : ℕ} {numbers : List ℕ} {s : ℕ} (i : Pa
       let stage : Stage = record { direction = getD ds s 0; control = getD cs s 0 } in
       let here : length (take s all) ≡ s = length-take-le s all (omega (arith, size, i .last)) in
       let next : take s all ++ (stage ∷ []) ≡ take (s + 1) all =
-          ap (λ (t : Stage). take s all ++ (t ∷ [])) (sym (pairs-at ds cs s stage (omega (arith, i .last)) (omega (arith, i .last))))
-          ∙ sym (take-suc all s stage (omega (arith, size, i .last)))
-          ∙ ap (λ (m : ℕ). take m all) (sym (add-one s)) in
+      ap (λ (t : Stage). take s all ++ (t ∷ [])) (sym (pairs-at ds cs s stage (omega (arith, i .last)) (omega (arith, i .last))))
+      ∙ sym (take-suc all s stage (omega (arith, size, i .last)))
+      ∙ ap (λ (m : ℕ). take m all) (sym (add-one s)) in
       record {
         last = i .last;
         within = omega arith;

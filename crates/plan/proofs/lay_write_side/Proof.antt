@@ -160,9 +160,9 @@ returns c = λ ss shows range.
     let w = W d ss shows range in
     let few = write d ss shows range .stages in
     let kept : r .kept-stages .result ≡ staged (w .stages) =
-        r .kept-stages .ensures
-        ∙ ap (λ (l : List ℕ). staged (take (edition1 .most-stages) (keptStages l))) (ticks d ss shows range)
-        ∙ ap staged (take-all (edition1 .most-stages) (w .stages) few) in
+    r .kept-stages .ensures
+    ∙ ap (λ (l : List ℕ). staged (take (edition1 .most-stages) (keptStages l))) (ticks d ss shows range)
+    ∙ ap staged (take-all (edition1 .most-stages) (w .stages) few) in
     c .before .before .lay-out .ensures .laid (w .stages) (record { is = kept; few = few }) (start d .pre .side)
     ∙ ap (laidOut edition1) (same-side {c = w .stages} (addresses d ss shows range) (wires d ss shows range) refl)
 

@@ -110,9 +110,7 @@ two-to-requires : tie.Need-two-to-requires Inv-loop μ-loop
 two-to-requires c κs = search needs
 
 cast-units : tie.Need-cast-units Inv-loop μ-loop
-cast-units c =
-    let here = c .before .before .before .before in
-    omega (arith, c .two-to .ensures .fits (omega arith), pow-lt {i = here .loop .i - here .before .before .before .args .a} {j = 16} (omega arith))
+cast-units c = record { fits = rw (c .two-to .ensures .fits (omega arith)) (pow-lt {j = 16} (omega (arith, c .before .before .before .before .loop .inv .last))) }
 
 mul-units : tie.Need-mul-units Inv-loop μ-loop
 mul-units c = search needs

@@ -72,9 +72,7 @@ two-to-requires : tie.Need-two-to-requires Inv-loop μ-loop
 two-to-requires c κs = search needs
 
 cast-columns : tie.Need-cast-columns Inv-loop μ-loop
-cast-columns c =
-    let here = c .before .before in
-    omega (arith, c .two-to .ensures .fits (omega arith), pow-lt {i = here .loop .j - here .before .before .args .a} {j = 16} (omega arith))
+cast-columns c = record { fits = rw (c .two-to .ensures .fits (omega arith)) (pow-lt {j = 16} (omega (arith, c .before .before .loop .inv .last))) }
 
 mul-columns : tie.Need-mul-columns Inv-loop μ-loop
 mul-columns c = search needs

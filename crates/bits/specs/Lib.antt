@@ -2,3 +2,4 @@
 pub mod Image
 pub mod Parity
 pub mod Word
+pub mod Padded

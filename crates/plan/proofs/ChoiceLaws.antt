@@ -12,13 +12,10 @@ use mathlib.Core.List.{List}
 use native.Mathlib.Decide.{ℕ-discrete}
 use native.Mathlib.Omega.{arith}
 use lib.ListN.{length, getD, length-map}
-use lib.Pow.{pow-lt}
 use Rattle.kinds.specs.Edition.{Edition}
-use Rattle.kinds.specs.Frame.{tickBits, tickOf}
-use Rattle.kinds.proofs.FrameLaws.{tick-lt}
+use Rattle.kinds.specs.Frame.{tickBits}
 use Rattle.kinds.proofs.SearchLaws.{those-at, those-has}
 use Rattle.bits.specs.Image.{AllBelow}
-use Rattle.bits.proofs.ImageLaws.{columns-length, columns-below}
 use Rattle.span.specs.Scan.{rank, units}
 use Rattle.span.specs.Rows.{dots, takenOn}
 use Rattle.span.proofs.ScanLaws.{units-length, keptAt-below, others-below}
@@ -30,7 +27,8 @@ use Rattle.order.proofs.PartLaws.{rowsOf-length, rowsOf-below}
 use Rattle.order.proofs.RowLaws.{dots-P1, rows-rank}
 use Rattle.sheet.specs.Layout.{Layable}
 use Rattle.plan.specs.Planned.{othersOfP1, portsToZero, keptOfP3, readStages, plannedRead}
-use Rattle.plan.proofs.PairLaws.{pairs-length, pairs-range}
+use Rattle.lay.proofs.PairLaws.{pairs-length, pairs-range}
+use Rattle.plan.proofs.WithLaws.{with-read-layable}
 
 module _ (k : ℕ) (C : List ℕ) where
   pub zero-ports : ((l : ℕ) → l < length (portsToZero k C) → dots (rowsP1 k C) (getD (portsToZero k C) l 0) ≡ 0)
@@ -89,13 +87,6 @@ module _ {n : ℕ} (k : ℕ) {C : List ℕ} (within : k ≤ n) (o : Order n C) w
 
   pub read-layable : (e : Edition) → k ≤ e .most-stages → Layable e n k (plannedRead n k C)
   unfolding readStages
-  read-layable e room = record {
-    addresses = columns-length n (tickOf k);
-    wiring = columns-length k (λ p. p);
-    stages = omega (arith, read-count);
-    used = record {
-      addresses = columns-below n (2 ^ tickBits n k) (tickOf k) (λ j h. tick-lt within (pow-lt h));
-      wiring = columns-below k (2 ^ k) (λ p. p) (λ j h. pow-lt h);
-      stages = pairs-range k (tickBits n k) (othersOfP1 k C) (keptOfP3 n k C) (others-inside k C) (kept-inside n k C);
-    };
-  }
+  read-layable e room =
+      with-read-layable e n k (readStages n k C) within (pairs-range k (tickBits n k) (othersOfP1 k C) (keptOfP3 n k C) (others-inside k C) (kept-inside n k C))
+      (omega (arith, read-count))

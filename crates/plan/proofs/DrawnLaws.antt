@@ -14,6 +14,7 @@ use Rattle.kinds.specs.Frame.{tickBits, tickOf, portOf, wordAt, addressOf, bank
 use Rattle.kinds.proofs.FrameLaws.{port-lt, tick-unit}
 use Rattle.bits.specs.Image.{image, columns}
 use Rattle.bits.proofs.ImageLaws.{image-unit, image-lt, image-identity, image-shifted, columns-length, columns-at}
+use Rattle.bits.specs.Padded.{arrayWidth, padded}
 use Rattle.span.proofs.ScanLaws.{map-at}
 use Rattle.order.specs.Order.{place, Order}
 use Rattle.sheet.specs.Sheet.{Stage, flat}
@@ -21,17 +22,16 @@ use Rattle.sheet.specs.Layout.{InRange}
 use Rattle.sheet.proofs.LayLaws.{padded-at, padded-length, flat-from}
 use Rattle.switches.specs.Stages.{afterStages}
 use Rattle.switches.specs.Cells.{portToBank, tickToBank}
-use Rattle.maps.specs.Opened.{openWidth, padded}
 use Rattle.switches.proofs.CellLaws.{address-of-cell, bank-of-cell}
-use Rattle.plan.specs.Planned.{readStages, plannedRead, plannedM}
+use Rattle.plan.specs.Planned.{readWith, mWith}
 use Rattle.plan.specs.Inside.{bankThrough}
 
-module _ (n k : ℕ) (C : List ℕ) (within : k ≤ n) (order : Order n C) (read : InRange n k (plannedRead n k C)) where
+module _ (n k : ℕ) (ss : List Stage) (C : List ℕ) (within : k ≤ n) (order : Order n C) (read : InRange n k (readWith n k ss)) where
   abbrev f : ℕ → ℕ
-  f = plannedM n k C
+  f = mWith n k ss C
 
   abbrev G : List ℕ
-  G = flat (readStages n k C)
+  G = flat ss
 
   -- the address and the bank of the cell that M gives word 2^j
   address-column : (j : ℕ) → addressOf k (f (2 ^ j)) ≡ tickOf k (getD C j 0)
@@ -46,8 +46,8 @@ module _ (n k : ℕ) (C : List ℕ) (within : k ≤ n) (order : Order n C) (read
   bank-column j =
       let x : ℕ = place C (2 ^ j) in
       bank-of-cell read (tickOf k x) (portOf k x)
-      ∙ ap (afterStages (readStages n k C) (tickOf k x)) (image-identity k (portOf k x) (port-lt k x))
-      ∙ ap (λ (ss : List Stage). afterStages ss (tickOf k x) (portOf k x)) (sym (flat-from (readStages n k C)))
+      ∙ ap (afterStages ss (tickOf k x)) (image-identity k (portOf k x) (port-lt k x))
+      ∙ ap (λ (ts : List Stage). afterStages ts (tickOf k x) (portOf k x)) (sym (flat-from ss))
       ∙ ap (bankThrough k G) (image-unit C j)
 
   abbrev banks : List ℕ
@@ -61,24 +61,24 @@ module _ (n k : ℕ) (C : List ℕ) (within : k ≤ n) (order : Order n C) (read
       map-at (tickOf k) C j l ∙ sym (address-column j) ∙ sym (columns-at n (λ i. addressOf k (f i)) j (omega (arith, order .count))))
 
   -- the banks from column a on are the columns of a part of M that sends 2^j where M sends 2^(a + j)
-  part-drawn : (a m : ℕ) (g : ℕ → ℕ) → a + m ≤ n → n ≤ openWidth → ((j : ℕ) → g (2 ^ j) ≡ bankOf k (f (2 ^ (a + j))))
+  part-drawn : (a m : ℕ) (g : ℕ → ℕ) → a + m ≤ n → n ≤ arrayWidth → ((j : ℕ) → g (2 ^ j) ≡ bankOf k (f (2 ^ (a + j))))
       → take m (drop a (padded banks)) ≡ columns m g
   part-drawn a m g inside room same =
       let few : length banks ≡ n = length-map C (bankThrough k G) ∙ order .count in
-      let whole = padded-length openWidth banks (omega (arith, few)) in
+      let whole = padded-length arrayWidth banks (omega (arith, few)) in
       let size : length (take m (drop a (padded banks))) ≡ m = omega (arith, length-take m (drop a (padded banks)), length-drop a (padded banks), whole) in
       ext-getD 0 (take m (drop a (padded banks))) (columns m g) (size ∙ sym (columns-length m g))
       (λ j h.
       let l : j < m = omega (arith, size) in
       getD-take m (drop a (padded banks)) j 0 l
       ∙ getD-drop a (padded banks) j 0
-      ∙ padded-at openWidth banks (a + j)
+      ∙ padded-at arrayWidth banks (a + j)
       ∙ map-at (bankThrough k G) C (a + j) (omega (arith, order .count))
       ∙ sym (bank-column (a + j))
       ∙ sym (same j)
       ∙ sym (columns-at m g j l))
 
-  module _ (room : n ≤ openWidth) where
+  module _ (room : n ≤ arrayWidth) where
     pub wiring-drawn : take (k - 0) (padded banks) ≡ columns k (portToBank k f)
     wiring-drawn =
         ap (λ (m : ℕ). take m (padded banks)) {x = k - 0} {y = k} (omega arith)

@@ -1,5 +1,5 @@
 -- Laws of the planned sheet.
-pub mod PairLaws
+pub mod WithLaws
 pub mod ChoiceLaws
 pub mod WiringLaws
 pub mod PlannedLaws

@@ -1,39 +1,30 @@
 -- One scan finds the rows: what it keeps of the rows of P1 and then those of P3 tells both choices.
---   told               the mask of a number tells whether it was kept
 --   others-listed      the rows of P1 that are not kept
 --   kept-listed        the rows of P3 that are kept on the ports that P1 sends to 0
-use Prim.Native.Nat.{ℕ, _+_, _-_, _^_, _<_, _≤_}
+use Prim.Native.Nat.{ℕ, _+_, _-_, _<_, _≤_}
 use mathlib.Core.Path.{_≡_, sym, ap, _∙_}
 use mathlib.Core.Bool.{true, false, Bool-discrete}
 use mathlib.Core.List.{List, _++_}
 use mathlib.Core.Logic.{_↔_}
 use native.Mathlib.Omega.{arith}
 use native.Mathlib.Nat.{zero-add}
-use borrow.Author.Tests.{leb-true, le-leb}
 use lib.ListN.{length, getD, length-map}
 use Rattle.kinds.specs.Decided.{opposite}
 use Rattle.kinds.specs.Frame.{tickBits}
 use Rattle.kinds.specs.Search.{those}
-use Rattle.kinds.specs.Answers.{Says}
 use Rattle.kinds.proofs.SearchLaws.{those-same}
 use Rattle.kinds.proofs.TruthLaws.{stable, denied, says-no, says-same}
 use Rattle.span.specs.Scan.{sumBefore?, IsKept, keptAt, others, mask}
 use Rattle.span.specs.Rows.{dots, takenOn}
 use Rattle.span.proofs.ScanLaws.{kept-those, IsKept-prefix}
-use Rattle.span.proofs.MaskLaws.{mask-says}
 use Rattle.span.proofs.TakenLaws.{taken-kept}
 use Rattle.order.specs.Parts.{P1, P3, rowsP1, rowsP3}
 use Rattle.order.proofs.PartLaws.{rowsOf-below}
 use Rattle.order.proofs.RowLaws.{P1-count, P3-count}
 use Rattle.plan.specs.Planned.{othersOfP1, portsToZero, keptOfP3}
-use Rattle.plan.specs.Inside.{keptIn, listed}
+use Rattle.rows.specs.Listed.{keptIn, listed}
+use Rattle.rows.proofs.KeptLaws.{told}
 use Rattle.plan.proofs.ChoiceLaws.{zero-ports}
-
-pub told : (vs ms : List ℕ) (i : ℕ) → getD ms i 0 ≡ mask vs i → Says (keptIn ms i) (IsKept vs i)
-told vs ms i e = (
-  λ kept. mask-says vs i .1 (rw e at (leb-true (2 ^ i) (getD ms i 0) kept)),
-  λ kept. le-leb (2 ^ i) (getD ms i 0) (rw e (mask-says vs i .0 kept)),
-)
 
 module _ (n k : ℕ) (C : List ℕ) (within : k ≤ n) where
   abbrev R : List ℕ

@@ -2,22 +2,37 @@
 --   plans-unique      it has one answer, and leaves one content
 --   plans-done        every order within the sizes is planned, if the lent sheet has its places
 --   plans-exist       and the planned sheet is such an answer
+-- And what its check tells, where it says a:
+--   plannable         done, everything is sound
+--   with-before       refused, it is the refusal of the sheet with given read stages too
+--   with-out          done, and a stage is out of its range: 5
+--   with-in           done, and all are in range: so is the answer, once the sheet is written
+--   with-right        the sheet with given read stages is right for the order, if the wiring that they leave sends no two ports to one bank
 use Prim.Native.Nat.{ℕ, _≤_}
 use mathlib.Core.Path.{_≡_, sym, ap, _∙_}
-use mathlib.Core.List.{List}
-use mathlib.Core.Option.{none}
+use mathlib.Core.List.{List, [], _∷_}
+use mathlib.Core.Option.{none, some}
+use native.Mathlib.Omega.{arith}
 use lib.ListN.{length}
-use Rattle.kinds.specs.Edition.{Edition, Sized, sized?, sheetPlaces}
+use Rattle.kinds.specs.Edition.{Edition, edition1, Sized, sized?, sheetPlaces}
 use Rattle.kinds.specs.First.{firstOf}
+use Rattle.kinds.specs.Answers.{Answers}
 use Rattle.kinds.specs.Refusal.{said}
 use Rattle.kinds.specs.declared.Answer.{Answer}
 use Rattle.kinds.specs.declared.Answer.the-variants.{Done}
-use Rattle.kinds.proofs.AnswerLaws.{said-same, done-by, answers-done, answers-same, answers-agree}
+use Rattle.kinds.specs.declared.Refusal.the-variants.{Layout}
+use Rattle.kinds.proofs.FirstLaws.{first-nil, first-take, first-skip, first-none, first-append}
+use Rattle.kinds.proofs.AnswerLaws.{said-same, said-before, does, done-by, answers-done, answers-same, answers-agree}
 use Rattle.order.specs.Order.{Order}
 use Rattle.order.proofs.TableLaws.{order-sound}
+use Rattle.sheet.specs.Sheet.{Stage}
 use Rattle.sheet.specs.Table.{sheetLengths}
-use Rattle.plan.specs.Planned.{plannedSheet}
-use Rattle.plan.specs.Tool.{planTable, IsPlanned, Plans}
+use Rattle.promise.specs.Series.{Right}
+use Rattle.promise.proofs.ExactLaws.{passes-right}
+use Rattle.plan.specs.Planned.{StagesInRange, Wires, sheetWith, plannedSheet}
+use Rattle.plan.specs.Tool.{planTable, outOfRange, withTable, IsPlanned, Plans}
+use Rattle.plan.specs.Inside.{Plannable}
+use Rattle.plan.proofs.WithLaws.{wires-vanish, with-formed, with-passes}
 use Rattle.plan.proofs.PlannedLaws.{planned}
 
 module _ (e : Edition) (n k : ℕ) (C s : List ℕ) where
@@ -36,3 +51,28 @@ module _ (e : Edition) (n k : ℕ) (C s : List ℕ) where
 
     pub plans-exist : e .most-k ≤ e .most-stages → Plans e n k C s (plannedSheet e n k C) Done
     plans-exist room = done-by none-given (planned sized order room)
+
+module _ (n k : ℕ) (C s : List ℕ) {a : Answer} (says : said a ≡ firstOf (planTable edition1 n k C s)) where
+  pub plannable : a ≡ Done → Plannable n k C s
+  plannable done =
+      let (sized, right, order) = order-sound (sized? edition1 n k) n C (sheetLengths edition1 s) .0 (sym says ∙ ap said done) in
+      record { ordered = record { sized = sized; order = order }; places = right .0 }
+
+  module _ (ss : List Stage) where
+    pub with-before : ¬ (a ≡ Done) → said a ≡ firstOf (withTable edition1 n k ss C s)
+    with-before refused = said-before (planTable edition1 n k C s) (outOfRange n k ss ∷ []) a refused says
+
+    passed : a ≡ Done → firstOf (withTable edition1 n k ss C s) ≡ firstOf (outOfRange n k ss ∷ [])
+    passed done = first-append (planTable edition1 n k C s) (outOfRange n k ss ∷ []) (first-none (planTable edition1 n k C s) .0 (sym says ∙ ap said done))
+
+    pub with-out : a ≡ Done → ¬ StagesInRange n k ss → firstOf (withTable edition1 n k ss C s) ≡ some Layout
+    with-out done out = passed done ∙ first-take (outOfRange n k ss) [] out
+
+    pub with-in : a ≡ Done → StagesInRange n k ss → {s' : List ℕ} → s' ≡ sheetWith edition1 n k ss C
+        → Answers (withTable edition1 n k ss C s) (said a) (s' ≡ sheetWith edition1 n k ss C) (s' ≡ s)
+    with-in done range = does done (ap said done ∙ sym (passed done ∙ first-skip (outOfRange n k ss) [] (λ out. out range) ∙ first-nil))
+
+pub with-right : {e : Edition} {n k : ℕ} {C : List ℕ} (ss : List Stage) → Sized e n k → Order n C → e .most-k ≤ e .most-stages
+    → StagesInRange n k ss → length ss ≤ e .most-stages → Wires k ss C → Right e n k C (sheetWith e n k ss C)
+with-right {k = k} {C = C} ss sized order room range few wires =
+    passes-right (omega (arith, sized .most)) order (with-formed sized order room ss range few) (with-passes sized order room ss range few (wires-vanish k ss C wires))

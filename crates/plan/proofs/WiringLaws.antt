@@ -4,7 +4,6 @@
 use Prim.Native.Nat.{ℕ, _^_, _<_, _≤_}
 use mathlib.Core.Path.{_≡_, sym, ap, _∙_}
 use mathlib.Core.List.{List}
-use lib.Bits.{bitXor}
 use Rattle.bits.specs.Parity.{bit}
 use Rattle.bits.proofs.XorLaws.{xor-zero-eq}
 use Rattle.span.specs.Scan.{units, over}
@@ -18,9 +17,9 @@ use Rattle.order.specs.Order.{Order}
 use Rattle.order.specs.Parts.{P1, P3, rowsP1, rowsP3}
 use Rattle.order.proofs.RowLaws.{dots-P1, dots-P3, parts-vanish}
 use Rattle.switches.specs.Stages.{selected}
-use Rattle.plan.specs.Planned.{othersOfP1, portsToZero, keptOfP3, readStages}
+use Rattle.plan.specs.Planned.{othersOfP1, portsToZero, keptOfP3, readStages, wiringWith}
 use Rattle.plan.proofs.ChoiceLaws.{zero-ports, as-many}
-use Rattle.plan.proofs.PairLaws.{pairs-selected}
+use Rattle.lay.proofs.PairLaws.{pairs-selected}
 
 module _ {n : ℕ} (k : ℕ) {C : List ℕ} (within : k ≤ n) (o : Order n C) where
   abbrev is : List ℕ
@@ -34,7 +33,7 @@ module _ {n : ℕ} (k : ℕ) {C : List ℕ} (within : k ≤ n) (o : Order n C) w
   unfolding readStages
   read-selected = pairs-selected (units is) (units js) (as-many k within o)
 
-  module _ (p : ℕ) (h : p < 2 ^ k) (e : bitXor (selected (readStages n k C) (P3 k C p)) (P1 k C p) ≡ 0) where
+  module _ (p : ℕ) (h : p < 2 ^ k) (e : wiringWith k (readStages n k C) C p ≡ 0) where
     abbrev bits : ℕ
     bits = dots (units js) (P3 k C p)
 

@@ -1,28 +1,58 @@
--- The sheet that is planned for the order with the columns C (01, 'The planner's choices'; 001, Algorithm 5.2).
+-- The sheet with any read stages for the order with the columns C, and the one that is planned for it (01, 'The planner's choices'; 001, Algorithm 5.2).
+--   StagesInRange n k ss     every stage of ss is in its range
+--   readWith n k ss          the read side: "address is the tick, wiring the identity", and the stages ss
+--   mWith n k ss C i         "M = N P"
+--   writeWith n k ss C       the write side, which has M for its map
+--   sheetWith e n k ss C     the sheet
+--   wiringWith k ss C p      the port-to-bank part of M: P1, and what the read stages add to it
+--   Wires k ss C             it sends no two ports to one bank
+-- The planner's choices:
 --   othersOfP1 k C       the numbers of the rows of P1 that are not kept when they are scanned "from 0 up": "the k - r others are i1 < i2 < ..."
 --   portsToZero k C      the "ports that P1 sends to 0"
 --   keptOfP3 n k C       the numbers of the rows of P3 that are kept, "taken only on ports that P1 sends to 0": "the kept are j1 < j2 < ..., k - r of them"
---   pairs ds cs          the stages with the directions ds and the controls cs, which are equally many (laws `other-rows` and `kept-rows`)
---   readStages n k C     "stages (2^i1, 2^j1), (2^i2, 2^j2), ..."
---   plannedRead n k C    the read side: "address is the tick, wiring the identity", and these stages
---   plannedM n k C i     "M = N P"
---   plannedWrite n k C   the write side, which has M for its map
---   plannedSheet e n k C the sheet
-use Prim.Native.Nat.{ℕ, _^_}
-use mathlib.Core.List.{List, [], _∷_}
+--   readStages n k C     "stages (2^i1, 2^j1), (2^i2, 2^j2), ...": there are as many directions as controls (laws `other-rows` and `kept-rows`)
+--   plannedRead n k C, plannedM n k C i, plannedWrite n k C, plannedSheet e n k C      the sides, M and the sheet with these read stages
+use Prim.Native.Nat.{ℕ, _^_, _<_}
+use mathlib.Core.Path.{_≡_}
+use mathlib.Core.List.{List}
 use native.Mathlib.Decide.{ℕ-discrete}
+use lib.Bits.{bitXor}
 use lib.ListN.{length}
 use Rattle.kinds.specs.Edition.{Edition}
-use Rattle.kinds.specs.Frame.{tickOf}
+use Rattle.kinds.specs.Frame.{tickBits, tickOf}
 use Rattle.kinds.specs.Search.{those}
 use Rattle.bits.specs.Image.{columns}
 use Rattle.span.specs.Scan.{keptAt, others, units}
 use Rattle.span.specs.Rows.{takenOn}
 use Rattle.order.specs.Order.{place}
-use Rattle.order.specs.Parts.{P1, rowsP1, rowsP3}
+use Rattle.order.specs.Parts.{P1, P3, rowsP1, rowsP3}
 use Rattle.sheet.specs.Sheet.{Stage, Side, sheetOf}
+use Rattle.sheet.specs.Layout.{StageInRange, EachStage}
+use Rattle.switches.specs.Stages.{selected}
 use Rattle.switches.specs.Cells.{cellOf}
 use Rattle.switches.specs.Written.{sideFor}
+unfoldable pub use Rattle.lay.specs.Staged.{pairs}
+
+abbrev pub StagesInRange : ℕ → ℕ → List Stage → Type 0
+StagesInRange n k ss = EachStage (StageInRange (2 ^ k) (2 ^ tickBits n k)) ss
+
+abbrev pub readWith : ℕ → ℕ → List Stage → Side
+readWith n k ss = record { addresses = columns n (tickOf k); wiring = columns k (λ p. p); stages = ss }
+
+abbrev pub mWith : ℕ → ℕ → List Stage → List ℕ → ℕ → ℕ
+mWith n k ss C i = cellOf k (readWith n k ss) (place C i)
+
+abbrev pub writeWith : ℕ → ℕ → List Stage → List ℕ → Side
+writeWith n k ss C = sideFor n k (mWith n k ss C)
+
+abbrev pub sheetWith : Edition → ℕ → ℕ → List Stage → List ℕ → List ℕ
+sheetWith e n k ss C = sheetOf e (writeWith n k ss C) (readWith n k ss)
+
+abbrev pub wiringWith : ℕ → List Stage → List ℕ → ℕ → ℕ
+wiringWith k ss C p = bitXor (selected ss (P3 k C p)) (P1 k C p)
+
+abbrev pub Wires : ℕ → List Stage → List ℕ → Type 0
+Wires k ss C = (p q : ℕ) → p < 2 ^ k → q < 2 ^ k → wiringWith k ss C p ≡ wiringWith k ss C q → p ≡ q
 
 unfoldable pub othersOfP1 : ℕ → List ℕ → List ℕ
 unfolding others
@@ -36,23 +66,18 @@ unfoldable pub keptOfP3 : ℕ → ℕ → List ℕ → List ℕ
 unfolding keptAt portsToZero
 keptOfP3 n k C = let rows = takenOn (portsToZero k C) (rowsP3 n k C) in keptAt rows (length rows)
 
-unfoldable pub pairs : List ℕ → List ℕ → List Stage
-pairs [] cs = []
-pairs (d ∷ ds) [] = []
-pairs (d ∷ ds) (c ∷ cs) = record { direction = d; control = c } ∷ pairs ds cs
-
 unfoldable pub readStages : ℕ → ℕ → List ℕ → List Stage
 unfolding pairs othersOfP1 keptOfP3
 readStages n k C = pairs (units (othersOfP1 k C)) (units (keptOfP3 n k C))
 
 abbrev pub plannedRead : ℕ → ℕ → List ℕ → Side
-plannedRead n k C = record { addresses = columns n (tickOf k); wiring = columns k (λ p. p); stages = readStages n k C }
+plannedRead n k C = readWith n k (readStages n k C)
 
 abbrev pub plannedM : ℕ → ℕ → List ℕ → ℕ → ℕ
-plannedM n k C i = cellOf k (plannedRead n k C) (place C i)
+plannedM n k C = mWith n k (readStages n k C) C
 
 abbrev pub plannedWrite : ℕ → ℕ → List ℕ → Side
-plannedWrite n k C = sideFor n k (plannedM n k C)
+plannedWrite n k C = writeWith n k (readStages n k C) C
 
 abbrev pub plannedSheet : Edition → ℕ → ℕ → List ℕ → List ℕ
-plannedSheet e n k C = sheetOf e (plannedWrite n k C) (plannedRead n k C)
+plannedSheet e n k C = sheetWith e n k (readStages n k C) C

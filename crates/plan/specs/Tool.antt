@@ -2,24 +2,31 @@
 --   planTable e n k C s     "Planner: 1 to 4"
 --   IsPlanned e n k C s     s is the planned sheet, number for number; it has the places of a sheet, is well-formed, and right for the order C; it has exactly k - rank P1 read stages, and no
 --                           well-formed sheet that is right for the order has fewer
+--   outOfRange n k ss       5: a stage of ss is out of its range, and so no sheet that has it keeps the layout
+--   withTable e n k ss C s  1 to 4, and this
+--   PlansWith e n k o C s s' r    the sheet with given read stages: for whichever stages o shows, r is the lowest of 1 to 5 that applies; done, s' is the sheet with these; refused, s' is s
 --   Plans e n k C s s' r    the planner: r is the lowest of 1 to 4 that applies; done, s' is planned for the order; refused, s' is s. s' is what the lent sheet s holds afterwards
-use Prim.Native.Nat.{ℕ, _+_, _≤_}
+use Prim.Native.Nat.{ℕ, _+_, _≤_, _^_}
 use mathlib.Core.Path.{_≡_}
-use mathlib.Core.List.{List}
+use mathlib.Core.List.{List, [], _∷_, _++_}
 use lib.ListN.{length}
 use Rattle.kinds.specs.Answers.{Answers}
 use Rattle.kinds.specs.Edition.{Edition, sheetPlaces, sized?}
-use Rattle.kinds.specs.First.{Reason}
+use Rattle.kinds.specs.Frame.{tickBits}
+use Rattle.kinds.specs.First.{Reason, unless}
 use Rattle.kinds.specs.Refusal.{said}
 use Rattle.kinds.specs.declared.Answer.{Answer}
+use Rattle.kinds.specs.declared.Refusal.the-variants.{Layout}
 use Rattle.span.specs.Scan.{rank}
 use Rattle.order.specs.Parts.{rowsP1}
 use Rattle.order.specs.Table.{orderTable}
-use Rattle.sheet.specs.Sheet.{readSide}
-use Rattle.sheet.specs.Layout.{WellFormed}
+use Rattle.sheet.specs.Sheet.{Stage, readSide}
+use Rattle.sheet.specs.Layout.{WellFormed, stageInRange?, eachStage?}
 use Rattle.sheet.specs.Table.{sheetLengths}
+use Rattle.lay.specs.Staged.{Shows}
+use Rattle.lay.specs.declared.Stages.{Stages}
 use Rattle.promise.specs.Series.{Right}
-use Rattle.plan.specs.Planned.{plannedSheet}
+use Rattle.plan.specs.Planned.{sheetWith, plannedSheet}
 
 abbrev pub planTable : Edition → ℕ → ℕ → List ℕ → List ℕ → List Reason
 planTable e n k C s = orderTable (sized? e n k) n C (sheetLengths e s)
@@ -32,6 +39,15 @@ pub record IsPlanned (e : Edition) (n k : ℕ) (C s : List ℕ) : Type 0 where
   pub stages : rank (rowsP1 k C) + length (readSide e n k s .stages) ≡ k
   pub fewest : (other : List ℕ) → WellFormed e n k other → Right e n k C other
       → length (readSide e n k s .stages) ≤ length (readSide e n k other .stages)
+
+abbrev pub outOfRange : ℕ → ℕ → List Stage → Reason
+outOfRange n k ss = unless Layout (eachStage? (stageInRange? (2 ^ k) (2 ^ tickBits n k)) ss)
+
+abbrev pub withTable : Edition → ℕ → ℕ → List Stage → List ℕ → List ℕ → List Reason
+withTable e n k ss C s = planTable e n k C s ++ (outOfRange n k ss ∷ [])
+
+abbrev pub PlansWith : Edition → ℕ → ℕ → Stages → List ℕ → List ℕ → List ℕ → Answer → Type 0
+PlansWith e n k o C s s' r = (ss : List Stage) → Shows o ss → Answers (withTable e n k ss C s) (said r) (s' ≡ sheetWith e n k ss C) (s' ≡ s)
 
 abbrev pub Plans : Edition → ℕ → ℕ → List ℕ → List ℕ → List ℕ → Answer → Type 0
 Plans e n k C s s' r = Answers (planTable e n k C s) (said r) (IsPlanned e n k C s') (s' ≡ s)

@@ -1,24 +1,22 @@
 // The planner: from an order to its sheet (01, 'The planner's choices').
 ghost use mathlib.Core.Path.{_≡_};
-ghost use mathlib.Core.List.{map};
-ghost use Prim.Native.Nat.{_+_, _/_, _≤_, _^_};
-ghost use lib.ListN.{length};
-ghost use Rattle.kinds.specs.Edition.{edition1};
+ghost use Prim.Native.Nat.{_≤_};
+ghost use lib.ListN.{length, take};
+ghost use Rattle.kinds.specs.Edition.{edition1, Sized};
 ghost use Rattle.kinds.specs.Frame.{tickOf};
-ghost use Rattle.bits.specs.Image.{columns as columnsOf};
-ghost use Rattle.span.specs.Scan.{masks as masksOf};
-ghost use Rattle.span.specs.Rows.{row as rowIn, rows as rowsIn};
-ghost use Rattle.sheet.specs.Sheet.{laidOut, paddedTo};
-ghost use Rattle.maps.specs.Opened.{openWidth, padded};
+ghost use Rattle.bits.specs.Padded.{arrayWidth};
 ghost use Rattle.switches.specs.Written.{keptStages};
-ghost use Rattle.plan.specs.Planned.{pairs, readStages, plannedWrite, plannedSheet};
-ghost use Rattle.plan.specs.Tool.{Plans};
-ghost use Rattle.plan.specs.Inside.{Plannable, Ordered, staged, listed, keptIn, unitsOf, bankThrough, Narrow, MaskOf, Within, Pairable, Shiftable, FewKept, ReadRoom, LaysRead, WriteRoom, SideRoom, LaysOut};
+ghost use Rattle.lay.specs.Staged.{staged};
+ghost use Rattle.plan.specs.Planned.{readStages};
+ghost use Rattle.plan.specs.Tool.{Plans, PlansWith};
+ghost use Rattle.plan.specs.Inside.{SaysInRange, Ordered, Plannable, ReadRoom, WriteRoom, Writes, LaysRead, LaysWrite, bankThrough, drawn};
+use kinds::Addr;
 use kinds::Answer;
 use kinds::Bank;
-use kinds::Tick;
+use kinds::Refusal;
+use lay::Stages;
 
-// Room for the columns of an order, for its rows, and for the numbers of a side's stages, two each.
+// Room for the columns of an order, and for their cells.
 const WIDTH: usize = 16;
 
 // The sheet for an order. 1 to 4.
@@ -31,26 +29,39 @@ pub fn plan(n: u32, k: u32, columns: &[u16], sheet: &mut [u16]) -> Answer
     if !done {
         return answer;
     }
-    write_sheet(n, k, columns, sheet);
+    let read = read_stages(n, k, columns);
+    write_sheet(n, k, columns, read, sheet);
     answer
 }
 
-// Stages as they stand on a sheet, and zeros after them; `count` counts the stages.
-struct Stages {
-    numbers: [u16; WIDTH],
-    count: usize,
+// The sheet with these read stages, and the write side that goes with them. 1 to 4, and 5 where a stage is out of its range.
+pub fn plan_with(n: u32, k: u32, columns: &[u16], read: Stages, sheet: &mut [u16]) -> Answer
+    ensures { λ r. ⌜ PlansWith edition1 n k read (now (columns .entry)) (now (sheet .entry)) (now (sheet .exit)) r ⌝ }
+{
+    let fits = sheet.len() == sheet::SHEET;
+    let answer = order::check_with_k(n, k, columns, fits);
+    let sound = kinds::is_done(answer);
+    if !sound {
+        return answer;
+    }
+    let formed = in_range(n, k, read);
+    if !formed {
+        return Answer::Refused(Refusal::Layout);
+    }
+    write_sheet(n, k, columns, read, sheet);
+    answer
 }
 
-fn write_sheet(n: u32, k: u32, columns: &[u16], sheet: &mut [u16])
-    requires { ⌜ Plannable n k (now columns) (now sheet) ⌝ }
-    ensures { λ r. ⌜ now (sheet .exit) ≡ plannedSheet edition1 n k (now (columns .entry)) ⌝ }
+// Whether each direction is from 1 to 2^k - 1, each control from 1 to 2^t - 1.
+fn in_range(n: u32, k: u32, stages: Stages) -> bool
+    requires { ⌜ Sized edition1 n k ⌝ }
+    ensures { λ r. ⌜ SaysInRange n k stages r ⌝ }
 {
-    let read = read_stages(n, k, columns);
-    let numbers = read.numbers;
-    let end = 2 * read.count;
-    let stages = &numbers[0..end];
-    lay_read_side(n, k, stages, &mut sheet[sheet::SIDE..]);
-    lay_write_side(n, k, columns, stages, &mut sheet[0..sheet::SIDE]);
+    let numbers = stages.numbers();
+    let count = stages.count();
+    let ports = bits::two_to(k);
+    let ticks = bits::two_to(n - k);
+    sheet::stages_formed(&numbers, count, ports, ticks)
 }
 
 // The rows of P1 and then those of P3 are the rows of the first k columns, and one scan goes over both: on the ports that P1 sends to 0, the sums of rows that vanish
@@ -61,225 +72,110 @@ fn read_stages(n: u32, k: u32, columns: &[u16]) -> Stages
 {
     let port_bits = k as usize;
     let word_bits = n as usize;
-    let rows = rows_of(&columns[0..port_bits], word_bits);
-    let masks = masks_of(&rows[0..word_bits]);
-    let others = list_rows(&masks, 0, port_bits, false);
-    let kept = list_rows(&masks, port_bits, word_bits, true);
+    let rows = rows::rows_of(&columns[0..port_bits], word_bits);
+    let masks = rows::masks_of(&rows[0..word_bits]);
+    let others = rows::list_rows(&masks, 0, port_bits, false);
+    let kept = rows::list_rows(&masks, port_bits, word_bits, true);
     let count = others.count;
     let directions = others.units;
     let controls = kept.units;
-    pair_up(&directions[0..count], &controls[0..count])
+    lay::pair_up(&directions[0..count], &controls[0..count])
 }
 
-fn rows_of(columns: &[u16], count: usize) -> [u16; WIDTH]
-    requires { ⌜ Narrow (now columns) count ⌝ }
-    ensures { λ r. ⌜ r ≡ padded (rowsIn count (now (columns .entry))) ⌝ }
+fn write_sheet(n: u32, k: u32, columns: &[u16], read: Stages, sheet: &mut [u16])
+    requires { ⌜ Plannable n k (now columns) (now sheet) ⌝ }
+    ensures { λ r. ⌜ Writes n k read (now (columns .entry)) (now (sheet .exit)) ⌝ }
 {
-    let mut rows = [0; WIDTH];
-    let mut i = 0;
-    while i < count {
-        rows[i] = row(columns, i);
-        i += 1;
-    }
-    rows
-}
-
-// Bit j of row i is bit i of number j.
-fn row(numbers: &[u16], i: usize) -> u16
-    requires { ⌜ Narrow (now numbers) (i + 1) ⌝ }
-    ensures { λ r. ⌜ r ≡ rowIn (now (numbers .entry)) i ⌝ }
-{
-    let mut row = 0;
-    let mut j = numbers.len();
-    while 0 < j {
-        j -= 1;
-        row = 2 * row + (numbers[j] >> i) % 2;
-    }
-    row
-}
-
-// The masks of the numbers, scanned in order.
-fn masks_of(numbers: &[u16]) -> [u16; WIDTH]
-    requires { ⌜ length (now numbers) ≤ openWidth ⌝ }
-    ensures { λ r. ⌜ r ≡ padded (masksOf (now (numbers .entry))) ⌝ }
-{
-    let scanned = span::scan_all(numbers);
-    scanned.masks
-}
-
-// Number i was kept exactly when its mask is 2^i: the mask of any other selects numbers before it.
-fn was_kept(masks: &[u16], i: usize) -> bool
-    requires { ⌜ MaskOf (now masks) i ⌝ }
-    ensures { λ r. ⌜ r ≡ keptIn (now (masks .entry)) i ⌝ }
-{
-    bits::two_to(i as u32) <= masks[i] as u32
-}
-
-// Row numbers i, each as 2^i, and zeros after them.
-struct Listed {
-    units: [u16; WIDTH],
-    count: usize,
-}
-
-// Of the rows from a to b - 1, those that were kept, or those that were not; 2^0 stands for row a.
-fn list_rows(masks: &[u16], a: usize, b: usize, kept: bool) -> Listed
-    requires { ⌜ Within a b (now masks) ⌝ }
-    ensures { λ r. ⌜ r ≡ unitsOf (listed (now (masks .entry)) a b kept) ⌝ }
-{
-    let mut units = [0; WIDTH];
-    let mut count = 0;
-    let mut i = a;
-    while i < b {
-        if was_kept(masks, i) == kept {
-            units[count] = bits::two_to((i - a) as u32) as u16;
-            count += 1;
-        }
-        i += 1;
-    }
-    Listed { units, count }
-}
-
-fn pair_up(directions: &[u16], controls: &[u16]) -> Stages
-    requires { ⌜ Pairable (now directions) (now controls) ⌝ }
-    ensures { λ r. ⌜ r ≡ staged (pairs (now (directions .entry)) (now (controls .entry))) ⌝ }
-{
-    let mut numbers = [0; WIDTH];
-    let count = directions.len();
-    let mut s = 0;
-    while s < count {
-        numbers[2 * s] = directions[s];
-        numbers[2 * s + 1] = controls[s];
-        s += 1;
-    }
-    Stages { numbers, count }
+    lay_read_side(n, k, read, &mut sheet[sheet::SIDE..]);
+    lay_write_side(n, k, columns, read, &mut sheet[0..sheet::SIDE]);
 }
 
 // "Address is the tick, wiring the identity" (01).
-fn lay_read_side(n: u32, k: u32, stages: &[u16], side: &mut [u16])
-    requires { ⌜ ReadRoom n k (now stages) (now side) ⌝ }
-    ensures { λ r. ⌜ LaysRead n k (now (stages .entry)) (now (side .exit)) ⌝ }
+fn lay_read_side(n: u32, k: u32, read: Stages, side: &mut [u16])
+    requires { ⌜ ReadRoom n k (now side) ⌝ }
+    ensures { λ r. ⌜ LaysRead n k read (now (side .exit)) ⌝ }
 {
     let port_bits = k as usize;
     let word_bits = n as usize;
-    let addresses = unit_columns(port_bits, word_bits);
-    let wiring = unit_columns(0, port_bits);
-    lay_out(
-        &addresses[0..word_bits],
-        &wiring[0..port_bits],
-        stages,
-        side,
-    );
+    let addresses = rows::unit_columns(port_bits, word_bits);
+    let wiring = rows::unit_columns(0, port_bits);
+    lay::lay_out(&addresses[0..word_bits], &wiring[0..port_bits], read, side);
 }
 
-// 2^0, 2^1, .. from place a up to b - 1, and zeros elsewhere.
-fn unit_columns(a: usize, b: usize) -> [u16; WIDTH]
-    requires { ⌜ b ≤ openWidth ⌝ }
-    ensures { λ r. ⌜ r ≡ padded (columnsOf b (λ x. x / 2 ^ a)) ⌝ }
-{
-    let mut columns = [0; WIDTH];
-    let mut j = a;
-    while j < b {
-        columns[j] = bits::two_to((j - a) as u32) as u16;
-        j += 1;
-    }
-    columns
-}
-
-// M = N P, column by column: the address is the tick of the order's column, and the bank its port, taken through the read stages. The banks of the first k are the wiring.
-fn lay_write_side(n: u32, k: u32, columns: &[u16], stages: &[u16], side: &mut [u16])
-    requires { ⌜ WriteRoom n k (now columns) (now stages) (now side) ⌝ }
-    ensures { λ r. ⌜ now (side .exit) ≡ laidOut edition1 (plannedWrite n k (now (columns .entry))) ⌝ }
+// M = N P, column by column: the cell that the place is read from. The banks of the first k are the wiring.
+fn lay_write_side(n: u32, k: u32, columns: &[u16], read: Stages, side: &mut [u16])
+    requires { ⌜ WriteRoom n k (now columns) (now side) ⌝ }
+    ensures { λ r. ⌜ LaysWrite n k read (now (columns .entry)) (now (side .exit)) ⌝ }
 {
     let port_bits = k as usize;
     let word_bits = n as usize;
-    let addresses = ticks_of(columns, k);
-    let banks = banks_of(columns, k, stages);
+    let numbers = read.numbers();
+    let end = 2 * read.count();
+    let cells = cells_of(columns, k, &numbers[0..end]);
+    let addresses = cells.addresses;
+    let banks = cells.banks;
     let write = kept_stages(&banks[port_bits..word_bits]);
-    let numbers = write.numbers;
-    let end = 2 * write.count;
-    lay_out(
-        &addresses[0..word_bits],
-        &banks[0..port_bits],
-        &numbers[0..end],
-        side,
-    );
+    lay::lay_out(&addresses[0..word_bits], &banks[0..port_bits], write, side);
 }
 
-fn ticks_of(places: &[u16], k: u32) -> [u16; WIDTH]
-    requires { ⌜ Shiftable k (now places) ⌝ }
-    ensures { λ r. ⌜ r ≡ padded (map (tickOf k) (now (places .entry))) ⌝ }
-{
-    let mut ticks = [0; WIDTH];
-    let mut j = 0;
-    while j < places.len() {
-        ticks[j] = places[j] >> k;
-        j += 1;
-    }
-    ticks
+struct Cell {
+    address: Addr,
+    bank: Bank,
 }
 
-// The bank starts as the port, since the read side's wiring is the identity.
-fn banks_of(places: &[u16], k: u32, stages: &[u16]) -> [u16; WIDTH]
-    requires { ⌜ Shiftable k (now places) ⌝ }
-    ensures { λ r. ⌜ r ≡ padded (map (bankThrough k (now (stages .entry))) (now (places .entry))) ⌝ }
+// The cell that a place is read from: "address is the tick, wiring the identity" (01), and then come the stages.
+fn read_cell(place: u32, k: u32, stages: &[u16]) -> Cell
+    ensures { λ r. ⌜ r .address .0 ≡ tickOf k place ⌝ }
+    ensures { λ r. ⌜ r .bank .0 ≡ bankThrough k (now (stages .entry)) place ⌝ }
 {
+    let slot = switches::slot_of(place, k);
+    let address = Addr(slot.tick.0);
+    let wired = Bank(slot.port.0);
+    let bank = switches::after_stages(stages, slot.tick, wired);
+    Cell { address, bank }
+}
+
+// The cells of some places, each part by itself, and zeros after them.
+struct Cells {
+    addresses: [u16; WIDTH],
+    banks: [u16; WIDTH],
+}
+
+fn cells_of(places: &[u16], k: u32, stages: &[u16]) -> Cells
+    requires { ⌜ length (now places) ≤ arrayWidth ⌝ }
+    ensures { λ r. ⌜ r ≡ drawn k (now (stages .entry)) (now (places .entry)) ⌝ }
+{
+    let mut addresses = [0; WIDTH];
     let mut banks = [0; WIDTH];
-    let ports = bits::two_to(k);
     let mut j = 0;
     while j < places.len() {
         let place = places[j] as u32;
-        let tick = place / ports;
-        let port = place % ports;
-        let bank = switches::after_stages(stages, Tick(tick), Bank(port));
-        banks[j] = bank.0 as u16;
+        let cell = read_cell(place, k, stages);
+        addresses[j] = cell.address.0 as u16;
+        banks[j] = cell.bank.0 as u16;
         j += 1;
     }
-    banks
+    Cells { addresses, banks }
 }
 
 // "A stage's direction is a kept column, and bit j of its control says whether that column is in the sum for tick bit j" (01).
 fn kept_stages(columns: &[u16]) -> Stages
-    requires { ⌜ FewKept (now columns) ⌝ }
-    ensures { λ r. ⌜ r ≡ staged (keptStages (now (columns .entry))) ⌝ }
+    requires { ⌜ length (now columns) ≤ arrayWidth ⌝ }
+    ensures { λ r. ⌜ r ≡ staged (take (edition1 .most-stages) (keptStages (now (columns .entry)))) ⌝ }
 {
-    let all = masks_of(columns);
+    let all = rows::masks_of(columns);
     let masks = &all[0..columns.len()];
-    let mut numbers = [0; WIDTH];
+    let mut directions = [0; WIDTH];
+    let mut controls = [0; WIDTH];
     let mut count = 0;
     let mut j = 0;
     while j < columns.len() {
-        if was_kept(masks, j) {
-            numbers[2 * count] = columns[j];
-            numbers[2 * count + 1] = row(masks, j);
+        if rows::was_kept(masks, j) {
+            directions[count] = columns[j];
+            controls[count] = rows::row(masks, j);
             count += 1;
         }
         j += 1;
     }
-    Stages { numbers, count }
-}
-
-fn lay_out(addresses: &[u16], wiring: &[u16], stages: &[u16], side: &mut [u16])
-    requires { ⌜ SideRoom (now addresses) (now wiring) (now stages) (now side) ⌝ }
-    ensures { λ r. ⌜ LaysOut (now (addresses .entry)) (now (wiring .entry)) (now (stages .entry)) (now (side .exit)) ⌝ }
-{
-    pad_into(addresses, &mut side[0..sheet::WIRING]);
-    pad_into(wiring, &mut side[sheet::WIRING..sheet::COUNT]);
-    side[sheet::COUNT] = (stages.len() / 2) as u16;
-    pad_into(stages, &mut side[sheet::STAGES..]);
-}
-
-// The numbers, and zeros after them.
-fn pad_into(numbers: &[u16], part: &mut [u16])
-    requires { ⌜ length (now numbers) ≤ length (now part) ⌝ }
-    ensures { λ r. ⌜ now (part .exit) ≡ paddedTo (length (now (part .entry))) (now (numbers .entry)) ⌝ }
-{
-    let mut j = 0;
-    while j < part.len() {
-        let mut number = 0;
-        if j < numbers.len() {
-            number = numbers[j];
-        }
-        part[j] = number;
-        j += 1;
-    }
+    lay::pair_up(&directions[0..count], &controls[0..count])
 }

@@ -9,14 +9,14 @@
 --   writePlaces e s, readPlaces e s          the places of the write side ("the first 32") and of the read side ("the last 32") of the sheet s
 --   writeSide e n k s, readSide e n k s      the two sides
 -- And whoever writes one writes it so:
---   paddedTo m l          the numbers of l, and zeros after them, m in all
 --   flat ss               the numbers of the stages ss, as they stand on a sheet: direction, control, direction, ..
 --   laidOut e S           all places of a side that says S. "Unused places are zero"
 --   sheetOf e W R         the sheet with the write side W and the read side R
-use Prim.Native.Nat.{ℕ, zero, suc, _+_, _-_, _*_, _/_}
+use Prim.Native.Nat.{ℕ, zero, suc, _+_, _*_, _/_}
 use mathlib.Core.List.{List, [], _∷_, _++_}
-use lib.ListN.{length, take, drop, getD, replicate}
+use lib.ListN.{length, take, drop, getD}
 use Rattle.kinds.specs.Edition.{Edition, sidePlaces}
+pub use Rattle.bits.specs.Padded.{paddedTo}
 
 pub record Stage : Type 0 where
   pub direction : ℕ
@@ -67,9 +67,6 @@ writeSide e n k s = sideOf e n k (writePlaces e s)
 
 abbrev pub readSide : Edition → ℕ → ℕ → List ℕ → Side
 readSide e n k s = sideOf e n k (readPlaces e s)
-
-abbrev pub paddedTo : ℕ → List ℕ → List ℕ
-paddedTo m l = l ++ replicate (m - length l) 0
 
 abbrev pub flat : List Stage → List ℕ
 flat [] = []

@@ -4,7 +4,7 @@ ghost use Rattle.kinds.specs.Edition.{edition1};
 ghost use Rattle.sheet.specs.Sheet.{stagesIn};
 ghost use Rattle.sheet.specs.Layout.{StageInRange, EachStage, FormedSide};
 ghost use Rattle.sheet.specs.Table.{sheetTable};
-ghost use Rattle.sheet.specs.Inside.{Whole, Room};
+ghost use Rattle.sheet.specs.Inside.{Whole};
 use kinds::Answer;
 use kinds::Refusal;
 
@@ -76,11 +76,13 @@ fn side_formed(n: u32, k: u32, side: &[u16]) -> bool
     bits::within_bits(&side[rest..], 0)
 }
 
-// A direction is below ports, a control below ticks, and neither is 0.
-fn stages_formed(stages: &[u16], count: usize, ports: u32, ticks: u32) -> bool
-    requires { ⌜ Room count (now stages) ⌝ }
+// A direction is below ports, a control below ticks, and neither is 0; a stage that there are no two places for has a 0.
+pub fn stages_formed(stages: &[u16], count: usize, ports: u32, ticks: u32) -> bool
     ensures { λ r. ⌜ Says r (EachStage (StageInRange ports ticks) (stagesIn count (now (stages .entry)))) ⌝ }
 {
+    if stages.len() / 2 < count {
+        return false;
+    }
     let mut s = 0;
     while s < count {
         let direction = stages[2 * s] as u32;

@@ -5,7 +5,7 @@ use native.Mathlib.Omega.{arith}
 use borrow.Author.Needs.{needs}
 use mir.Facts.{fits-widen}
 use lib.ListN.{length}
-use Rattle.sheet.proofs.FillLaws.{Filled, fill-none, fill-more, fill-all}
+use Rattle.bits.proofs.FillLaws.{Filled, fill-none, fill-more, fill-all}
 use Rattle.card.proofs.widened.Statement.{statement}
 use Rattle.card.proofs.widened.Tie as tie
 

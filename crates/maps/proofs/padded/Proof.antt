@@ -5,7 +5,7 @@ use native.Mathlib.Omega.{arith}
 use borrow.Author.Needs.{needs}
 use lib.ListN.{length}
 use Rattle.sheet.proofs.LayLaws.{padded-length, padded-at}
-use Rattle.sheet.proofs.FillLaws.{Filled, fill-none, fill-more, fill-whole}
+use Rattle.bits.proofs.FillLaws.{Filled, fill-none, fill-more, fill-whole}
 use Rattle.maps.specs.Opened.{openWidth, padded}
 use Rattle.maps.proofs.padded.Statement.{statement}
 use Rattle.maps.proofs.padded.Tie as tie

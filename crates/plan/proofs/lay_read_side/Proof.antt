@@ -1,19 +1,29 @@
 -- `plan::lay_read_side` meets its contract.
-use Prim.Native.Nat.{ℕ, _-_, _^_}
-use mathlib.Core.Path.{refl, sym, ap, _∙_}
+use Prim.Native.Nat.{ℕ, _-_, _^_, _≤_, min}
+use mathlib.Core.Path.{_≡_, refl, sym, ap, _∙_}
 use mathlib.Core.List.{List}
 use native.Mathlib.Nat.{div-one}
+use native.Mathlib.Omega.{arith}
 use borrow.Author.Needs.{needs}
 use lib.ListN.{take}
+use lib.Seq.{take-all}
 use Rattle.kinds.specs.Edition.{edition1}
 use Rattle.kinds.specs.Frame.{tickOf}
 use Rattle.bits.specs.Image.{columns}
+use Rattle.bits.specs.Padded.{arrayWidth, padded}
+use Rattle.bits.proofs.PaddedLaws.{padded-part}
 use Rattle.bits.proofs.ImageLaws.{columns-length, columns-same}
-use Rattle.sheet.specs.Sheet.{stagesFrom, laidOut}
-use Rattle.sheet.proofs.LayLaws.{padded-part, same-side}
-use Rattle.maps.specs.Opened.{openWidth}
+use Rattle.sheet.specs.Sheet.{laidOut}
+use Rattle.sheet.proofs.LayLaws.{same-side}
 use Rattle.plan.proofs.lay_read_side.Statement.{statement}
 use Rattle.plan.proofs.lay_read_side.Tie as tie
+
+-- m columns out of an array that has them, laid where there are places for l
+units-laid : (m l : ℕ) (f : ℕ → ℕ) {a : List ℕ} → a ≡ padded (columns (min m arrayWidth) f) → m ≤ l → l ≤ arrayWidth → take l (take (m - 0) a) ≡ columns m f
+units-laid m l f is few room =
+    ap (λ (r : List ℕ). take l (take (m - 0) r)) (is ∙ ap (λ (x : ℕ). padded (columns x f)) {x = min m arrayWidth} {y = m} (omega arith))
+    ∙ ap (take l) (padded-part arrayWidth (columns m f) m (sym (columns-length m f)))
+    ∙ take-all l (columns m f) (omega (arith, columns-length m f))
 
 unit-columns-requires : tie.Need-unit-columns-requires
 unit-columns-requires c κs = search needs
@@ -46,16 +56,15 @@ same-length : tie.Need-same-length
 same-length c = search needs
 
 returns : tie.Need-returns
-returns c =
+returns c = λ ss shows.
     let drawn = c .before .before .before .before .before .before .before .before in
-    let args = drawn .before .before .before .before .args in
-    let n : ℕ = args .n in
-    let k : ℕ = args .k in
-    c .before .before .lay-out .ensures
-    ∙ ap (laidOut edition1) (same-side {c = stagesFrom (args .stages .now)}
-    (ap (λ (l : List ℕ). take (n - 0) l) (drawn .before .unit-columns .ensures) ∙ padded-part openWidth (columns n (tickOf k)) n (sym (columns-length n (tickOf k))))
-    (ap (λ (l : List ℕ). take (k - 0) l) (drawn .unit-columns2 .ensures) ∙ padded-part openWidth (columns k (tickOf 0)) k (sym (columns-length k (tickOf 0)))
-    ∙ columns-same k (tickOf 0) (λ p. p) (λ j h. div-one (2 ^ j)))
+    let start = drawn .before .before .before in
+    let n : ℕ = start .args .n in
+    let k : ℕ = start .args .k in
+    c .before .before .lay-out .ensures .laid ss shows (start .pre .side)
+    ∙ ap (laidOut edition1) (same-side {c = ss}
+    (units-laid n 10 (tickOf k) (drawn .before .unit-columns .ensures) (start .pre .sized .frame .most) (omega arith))
+    (units-laid k 5 (tickOf 0) (drawn .unit-columns2 .ensures) (omega (arith, start .pre .sized .most)) (omega arith) ∙ columns-same k (tickOf 0) (λ p. p) (λ j h. div-one (2 ^ j)))
     refl)
 
 pub lay-read-side-spec : {M : Type 1} → statement M

@@ -1,34 +1,118 @@
--- `plan::lay_write_side` meets its contract. The ticks and the banks of the order's columns are the columns of M.
+-- `plan::lay_write_side` meets its contract. The addresses and the banks of the order's columns are the columns of M.
 use Prim.Native.Nat.{ℕ, _-_, _*_, _≤_}
-use mathlib.Core.Path.{_≡_, ap, _∙_, sym}
+use mathlib.Core.Path.{_≡_, refl, ap, _∙_, sym}
 use mathlib.Core.List.{List, map}
 use native.Mathlib.Omega.{arith}
 use borrow.Author.Needs.{needs}
 use lib.ListN.{length, take, drop, length-map}
+use lib.Seq.{take-all}
 use Rattle.kinds.specs.Edition.{edition1}
 use Rattle.kinds.specs.Frame.{tickBits, tickOf}
 use Rattle.bits.specs.Image.{columns}
-use Rattle.bits.proofs.ImageLaws.{columns-length}
-use Rattle.sheet.specs.Sheet.{Side, stagesFrom, flat, laidOut}
+use Rattle.bits.specs.Padded.{arrayWidth, padded}
+use Rattle.bits.proofs.PaddedLaws.{padded-length, padded-part}
+use Rattle.sheet.specs.Sheet.{Stage, Side, flat, laidOut}
 use Rattle.sheet.specs.Layout.{Layable, InRange}
-use Rattle.sheet.proofs.LayLaws.{padded-length, padded-part, flat-length, flat-from, same-side}
+use Rattle.sheet.proofs.LayLaws.{same-side}
 use Rattle.switches.specs.Cells.{tickToBank}
-use Rattle.maps.specs.Opened.{openWidth, padded}
 use Rattle.switches.specs.Written.{keptStages}
-use Rattle.switches.proofs.WrittenLaws.{kept-count}
-use Rattle.plan.specs.Planned.{readStages, plannedRead, plannedM, plannedWrite}
-use Rattle.plan.specs.Inside.{bankThrough, Ordered, FewKept, staged}
-use Rattle.plan.proofs.ChoiceLaws.{read-layable}
-use Rattle.plan.proofs.PlannedLaws.{write-layable}
+use Rattle.lay.specs.Staged.{staged, Shows}
+use Rattle.lay.proofs.StagedLaws.{shown-part}
+use Rattle.plan.specs.Planned.{StagesInRange, readWith, mWith, writeWith}
+use Rattle.plan.specs.Inside.{bankThrough, Ordered}
+use Rattle.plan.proofs.WithLaws.{with-read-layable, with-write-layable}
 use Rattle.plan.proofs.DrawnLaws.{addresses-drawn, wiring-drawn, tick-part-drawn}
 use Rattle.plan.proofs.lay_write_side.Statement.{statement}
 use Rattle.plan.proofs.lay_write_side.Tie as tie
 
-ticks-of-requires : tie.Need-ticks-of-requires
-ticks-of-requires c κs = search needs
+numbers-requires : tie.Need-numbers-requires
+numbers-requires c κs = search needs
 
-banks-of-requires : tie.Need-banks-of-requires
-banks-of-requires c κs = search needs
+count-requires : tie.Need-count-requires
+count-requires c κs = search needs
+
+mul-end : tie.Need-mul-end
+mul-end c = omega (arith, c .count .ensures .most)
+
+sub-cells-of : tie.Need-sub-cells-of
+sub-cells-of c = search needs
+
+part-cells-of-start : tie.Need-part-cells-of-start
+part-cells-of-start c = search needs
+
+part-cells-of-end : tie.Need-part-cells-of-end
+part-cells-of-end c = search needs
+
+cells-of-requires : tie.Need-cells-of-requires
+cells-of-requires c κs = search needs
+
+module _ (c : tie.After-cells-of) where
+  abbrev start : tie.Start
+  start = c .before .before .before .before .before .before .before
+
+  abbrev n : ℕ
+  n = start .args .n
+
+  abbrev k : ℕ
+  k = start .args .k
+
+  abbrev C : List ℕ
+  C = start .args .columns .now
+
+  abbrev G : List ℕ
+  G = take (2 * c .before .before .before .count .result - 0) (c .before .before .before .before .numbers .result)
+
+  sound : Ordered n k C
+  sound = start .pre .ordered
+
+  within : k ≤ n
+  within = omega (arith, sound .sized .most)
+
+  narrow : n ≤ arrayWidth
+  narrow = omega (arith, sound .sized .frame .most)
+
+  wide : (length (c .cells-of .result .addresses) ≡ arrayWidth) × (length (c .cells-of .result .banks) ≡ arrayWidth)
+  wide = (
+    ap (λ r. length (r .addresses)) (c .cells-of .ensures) ∙ padded-length arrayWidth (map (tickOf k) C) (omega (arith, length-map C (tickOf k), sound .order .count, narrow)),
+    ap (λ r. length (r .banks)) (c .cells-of .ensures) ∙ padded-length arrayWidth (map (bankThrough k G) C) (omega (arith, length-map C (bankThrough k G), sound .order .count, narrow)),
+  )
+
+  module _ (ss : List Stage) (shows : Shows (start .args .read) ss) (range : StagesInRange n k ss) where
+    abbrev W : Side
+    W = writeWith n k ss C
+
+    write : Layable edition1 n k W
+    write = with-write-layable (sound .sized) (sound .order) (omega arith) ss range (shows .few)
+
+    abbrev F : List ℕ
+    F = columns (tickBits n k) (tickToBank k (mWith n k ss C))
+
+    read : InRange n k (readWith n k ss)
+    read = with-read-layable edition1 n k ss within range (shows .few) .used
+
+    numbers : G ≡ flat ss
+    numbers =
+        ap (take (2 * c .before .before .before .count .result - 0)) (c .before .before .before .before .numbers .ensures ss shows)
+        ∙ shown-part ss (c .before .before .before .count .result) (c .before .before .before .count .ensures .counted ss shows)
+
+    banks : c .cells-of .result .banks ≡ padded (map (bankThrough k (flat ss)) C)
+    banks = ap (λ r. r .banks) (c .cells-of .ensures) ∙ ap (λ (l : List ℕ). padded (map (bankThrough k l) C)) numbers
+
+    ticks : take (n - k) (drop k (c .cells-of .result .banks)) ≡ F
+    ticks = ap (λ (l : List ℕ). take (n - k) (drop k l)) banks ∙ tick-part-drawn n k ss C within (sound .order) read narrow
+
+    wires : take 5 (take (k - 0) (c .cells-of .result .banks)) ≡ W .wiring
+    wires =
+        ap (λ (l : List ℕ). take 5 (take (k - 0) l)) banks
+        ∙ ap (take 5) (wiring-drawn n k ss C within (sound .order) read narrow)
+        ∙ take-all 5 (W .wiring) (omega (arith, write .wiring, sound .sized .most))
+
+    addresses : take 10 (take (n - 0) (c .cells-of .result .addresses)) ≡ W .addresses
+    addresses =
+        ap (λ r. take 10 (take (n - 0) (r .addresses))) (c .cells-of .ensures)
+        ∙ ap (take 10) (padded-part arrayWidth (map (tickOf k) C) n (sym (length-map C (tickOf k) ∙ sound .order .count))
+        ∙ addresses-drawn n k ss C within (sound .order) read)
+        ∙ take-all 10 (W .addresses) (omega (arith, write .addresses, sound .sized .frame .most))
 
 mul-kept-stages : tie.Need-mul-kept-stages
 mul-kept-stages c = search needs
@@ -40,86 +124,10 @@ part-kept-stages-start : tie.Need-part-kept-stages-start
 part-kept-stages-start c = search needs
 
 part-kept-stages-end : tie.Need-part-kept-stages-end
-part-kept-stages-end c = search needs
-
-module _ (c : tie.After-banks-of) where
-  abbrev start : tie.Start
-  start = c .before .before .before .before .before
-
-  abbrev n : ℕ
-  n = start .args .n
-
-  abbrev k : ℕ
-  k = start .args .k
-
-  abbrev C : List ℕ
-  C = start .args .columns .now
-
-  abbrev W : Side
-  W = plannedWrite n k C
-
-  sound : Ordered n k C
-  sound = start .pre .ordered
-
-  within : k ≤ n
-  within = omega (arith, sound .sized .most)
-
-  narrow : n ≤ openWidth
-  narrow = omega (arith, sound .sized .frame .most)
-
-  write : Layable edition1 n k W
-  write = write-layable (sound .sized) (sound .order) (omega arith)
-
-  banks : c .banks-of .result ≡ padded (map (bankThrough k (flat (readStages n k C))) C)
-  banks = c .banks-of .ensures ∙ ap (λ (G : List ℕ). padded (map (bankThrough k G) C)) (start .pre .stages)
-
-  abbrev F : List ℕ
-  F = columns (tickBits n k) (tickToBank k (plannedM n k C))
-
-  read : InRange n k (plannedRead n k C)
-  read = read-layable k within (sound .order) edition1 (omega (arith, sound .sized .most)) .used
-
-  ticks : take (n - k) (drop k (c .banks-of .result)) ≡ F
-  ticks = ap (λ (l : List ℕ). take (n - k) (drop k l)) banks ∙ tick-part-drawn n k C within (sound .order) read narrow
-
-  wires : take (k - 0) (c .banks-of .result) ≡ W .wiring
-  wires = ap (take (k - 0)) banks ∙ wiring-drawn n k C within (sound .order) read narrow
-
-  few : FewKept F
-  few = record { room = omega (arith, columns-length (tickBits n k) (tickToBank k (plannedM n k C)), narrow); stages = omega (arith, write .stages, kept-count F) }
+part-kept-stages-end c = let d = c .before .before .before in omega (arith, wide d .1, narrow d)
 
 kept-stages-requires : tie.Need-kept-stages-requires
-kept-stages-requires c κs = let b = c .before .before in rw (ticks b) (few b)
-
-module _ (c : tie.After-kept-stages) where
-  abbrev drawn : tie.After-banks-of
-  drawn = c .before .before .before
-
-  kept : c .kept-stages .result ≡ staged (W drawn .stages)
-  kept = c .kept-stages .ensures ∙ ap (λ (l : List ℕ). staged (keptStages l)) (ticks drawn)
-
-  counted : 2 * c .kept-stages .result .count ≡ length (flat (W drawn .stages))
-  counted = ap (λ r. 2 * r .count) kept ∙ sym (flat-length (W drawn .stages))
-
-  few-numbers : length (flat (W drawn .stages)) ≤ openWidth
-  few-numbers = omega (arith, flat-length (W drawn .stages), write drawn .stages)
-
-  wide : length (c .kept-stages .result .numbers) ≡ openWidth
-  wide = ap (λ r. length (r .numbers)) kept ∙ padded-length openWidth (flat (W drawn .stages)) few-numbers
-
-  stages : take (2 * c .kept-stages .result .count - 0) (c .kept-stages .result .numbers) ≡ flat (W drawn .stages)
-  stages =
-      ap (λ r. take (2 * c .kept-stages .result .count - 0) (r .numbers)) kept
-      ∙ padded-part openWidth (flat (W drawn .stages)) (2 * c .kept-stages .result .count) counted
-
-  addresses : take (n drawn - 0) (drawn .before .ticks-of .result) ≡ W drawn .addresses
-  addresses =
-      ap (take (n drawn - 0)) (drawn .before .ticks-of .ensures)
-      ∙ padded-part openWidth (map (tickOf (k drawn)) (C drawn)) (n drawn) (sym (length-map (C drawn) (tickOf (k drawn)) ∙ sound drawn .order .count))
-      ∙ addresses-drawn (n drawn) (k drawn) (C drawn) (within drawn) (sound drawn .order) (read drawn)
-
-mul-end : tie.Need-mul-end
-mul-end c = omega (arith, counted (c .before .before), few-numbers (c .before .before))
+kept-stages-requires c κs = search needs
 
 sub-lay-out : tie.Need-sub-lay-out
 sub-lay-out c = search needs
@@ -128,7 +136,7 @@ part-lay-out-start : tie.Need-part-lay-out-start
 part-lay-out-start c = search needs
 
 part-lay-out-end : tie.Need-part-lay-out-end
-part-lay-out-end c = search needs
+part-lay-out-end c = let d = c .before .before .before .before .before .before in omega (arith, wide d .0, narrow d)
 
 sub-lay-out-2 : tie.Need-sub-lay-out-2
 sub-lay-out-2 c = search needs
@@ -137,59 +145,49 @@ part-lay-out-start-2 : tie.Need-part-lay-out-start-2
 part-lay-out-start-2 c = search needs
 
 part-lay-out-end-2 : tie.Need-part-lay-out-end-2
-part-lay-out-end-2 c = search needs
-
-sub-lay-out-3 : tie.Need-sub-lay-out-3
-sub-lay-out-3 c = search needs
-
-part-lay-out-start-3 : tie.Need-part-lay-out-start-3
-part-lay-out-start-3 c = search needs
-
-part-lay-out-end-3 : tie.Need-part-lay-out-end-3
-part-lay-out-end-3 c = let r = c .before .before .before .before .before .before .before in omega (arith, counted r, few-numbers r, wide r)
+part-lay-out-end-2 c = let d = c .before .before .before .before .before .before .before .before in omega (arith, wide d .1, narrow d, within d)
 
 lay-out-requires : tie.Need-lay-out-requires
-lay-out-requires c κs =
-    let r = c .before .before .before .before .before .before .before .before .before in
-    let d = drawn r in
-    record {
-      addresses = rw (addresses r) (omega (arith, write d .addresses, sound d .sized .frame .most));
-      wiring = rw (wires d) (omega (arith, write d .wiring, sound d .sized .most));
-      even = rw (stages r) (omega (arith, flat-length (W d .stages)));
-      stages = rw (stages r) (few-numbers r);
-      side = start d .pre .side;
-    }
+lay-out-requires c κs = search needs
 
 same-length : tie.Need-same-length
 same-length c = search needs
 
 returns : tie.Need-returns
-returns c =
-    let r = c .before .before .before .before .before .before .before .before .before .before .before .before in
-    let d = drawn r in
-    c .before .before .lay-out .ensures ∙ ap (laidOut edition1) (same-side (addresses r) (wires d) (ap stagesFrom (stages r) ∙ flat-from (W d .stages)))
+returns c = λ ss shows range.
+    let r = c .before .before .before .before .before .before .before .before in
+    let d = r .before .before .before .before .before in
+    let w = W d ss shows range in
+    let few = write d ss shows range .stages in
+    let kept : r .kept-stages .result ≡ staged (w .stages) =
+    r .kept-stages .ensures
+    ∙ ap (λ (l : List ℕ). staged (take (edition1 .most-stages) (keptStages l))) (ticks d ss shows range)
+    ∙ ap staged (take-all (edition1 .most-stages) (w .stages) few) in
+    c .before .before .lay-out .ensures .laid (w .stages) (record { is = kept; few = few }) (start d .pre .side)
+    ∙ ap (laidOut edition1) (same-side {c = w .stages} (addresses d ss shows range) (wires d ss shows range) refl)
 
 pub lay-write-side-spec : {M : Type 1} → statement M
 lay-write-side-spec =
     tie.close
     (tie.spec
-    ticks-of-requires
-    banks-of-requires
+    numbers-requires
+    count-requires
+    mul-end
+    sub-cells-of
+    part-cells-of-start
+    part-cells-of-end
+    cells-of-requires
     mul-kept-stages
     sub-kept-stages
     part-kept-stages-start
     part-kept-stages-end
     kept-stages-requires
-    mul-end
     sub-lay-out
     part-lay-out-start
     part-lay-out-end
     sub-lay-out-2
     part-lay-out-start-2
     part-lay-out-end-2
-    sub-lay-out-3
-    part-lay-out-start-3
-    part-lay-out-end-3
     lay-out-requires
     same-length
     returns)

@@ -1,22 +1,24 @@
 -- `plan::plan` meets its contract. Past the check the columns are an order, and the sheet has its places.
 use Prim.Native.Nat.{ℕ}
-use mathlib.Core.Path.{_≡_, refl, sym, ap, subst, _∙_}
+use mathlib.Core.Path.{_≡_, refl, sym, subst}
 use mathlib.Core.Bool.{true}
 use mathlib.Core.List.{List}
 use native.Mathlib.Omega.{arith}
 use borrow.Author.Needs.{needs}
 use borrow.Author.Tests.{not-true, not-false}
-use Rattle.kinds.specs.Edition.{edition1, sized?}
+use Rattle.kinds.specs.Edition.{edition1}
 use Rattle.kinds.specs.Refusal.{said}
 use Rattle.kinds.specs.First.{firstOf}
 use Rattle.kinds.specs.declared.Answer.the-variants.{Done}
 use Rattle.kinds.proofs.TruthLaws.{denied}
 use Rattle.kinds.proofs.AnswerLaws.{one-length, refuses, does}
-use Rattle.order.proofs.TableLaws.{order-sound}
 use Rattle.sheet.specs.Table.{sheetLengths}
+use Rattle.plan.specs.Planned.{readStages}
 use Rattle.plan.specs.Tool.{planTable, IsPlanned}
 use Rattle.plan.specs.Inside.{Plannable}
+use Rattle.plan.proofs.ChoiceLaws.{read-layable}
 use Rattle.plan.proofs.PlannedLaws.{planned}
+use Rattle.plan.proofs.ToolLaws.{plannable}
 use Rattle.plan.proofs.plan.Statement.{statement}
 use Rattle.plan.proofs.plan.Tie as tie
 
@@ -50,15 +52,16 @@ module _ (c : tie.After-is-done) where
     done = c .is-done .ensures .0 yes-done
 
     sound : Plannable n k C sheet
-    sound =
-        let (sized, right, order) = order-sound (sized? edition1 n k) n C (sheetLengths edition1 sheet) .0 (sym says ∙ ap said done) in
-        record { ordered = record { sized = sized; order = order }; places = right .0 }
+    sound = plannable n k C sheet says done
 
 returns : tie.Need-returns
 returns c = refuses (denied (c .before .is-done .ensures) (not-true _ (c .if1 .taken))) (says (c .before)) refl
 
+read-stages-requires : tie.Need-read-stages-requires
+read-stages-requires c κs = sound (c .before) (not-false _ (c .if1 .left)) .ordered
+
 write-sheet-requires : tie.Need-write-sheet-requires
-write-sheet-requires c κs = sound (c .before .before) (not-false _ (c .before .if1 .left))
+write-sheet-requires c κs = sound (c .before .before .before) (not-false _ (c .before .before .if1 .left))
 
 same-length : tie.Need-same-length
 same-length c = search needs
@@ -66,10 +69,14 @@ same-length c = search needs
 returns-2 : tie.Need-returns-2
 returns-2 c =
     let written = c .before .before in
-    let checked = written .before .before .before in
-    let yes-done = not-false _ (written .before .before .if1 .left) in
+    let found = written .before .before in
+    let checked = found .before .before in
+    let yes-done = not-false _ (found .before .if1 .left) in
     let s = sound checked yes-done .ordered in
-    does (done checked yes-done) (says checked) (subst (IsPlanned edition1 (n checked) (k checked) (C checked)) (sym (written .write-sheet .ensures)) (planned (s .sized) (s .order) (omega arith)))
+    let read = read-layable (k checked) (omega (arith, s .sized .most)) (s .order) edition1 (omega (arith, s .sized .most)) in
+    does (done checked yes-done) (says checked) (subst (IsPlanned edition1 (n checked) (k checked) (C checked))
+    (sym (written .write-sheet .ensures (readStages (n checked) (k checked) (C checked)) (record { is = found .read-stages .ensures; few = read .stages }) (read .used .stages)))
+    (planned (s .sized) (s .order) (omega arith)))
 
 pub plan-spec : {M : Type 1} → statement M
 plan-spec =
@@ -78,6 +85,7 @@ plan-spec =
     check-with-k-requires
     is-done-requires
     returns
+    read-stages-requires
     write-sheet-requires
     same-length
     returns-2)

@@ -1,10 +1,13 @@
 -- `plan::read_stages` meets its contract. The masks of the rows tell which were kept, and the two lists have one length.
-use Prim.Native.Nat.{ℕ, _-_, _<_, _≤_}
+use Prim.Native.Nat.{ℕ, _-_, _<_, _≤_, min}
 use mathlib.Core.Path.{_≡_, sym, ap, ap₂, _∙_}
+use mathlib.Core.Bool.{true, false}
 use mathlib.Core.List.{List, _++_}
 use native.Mathlib.Omega.{arith}
 use borrow.Author.Needs.{needs}
-use lib.ListN.{length, getD, take}
+use lib.ListN.{length, getD, take, length-take}
+use lib.Seq.{take-all}
+use Rattle.kinds.specs.Edition.{edition1}
 use Rattle.span.specs.Scan.{mask, masks, units}
 use Rattle.span.specs.Rows.{rows}
 use Rattle.span.proofs.ScanLaws.{units-length}
@@ -12,10 +15,12 @@ use Rattle.span.proofs.MaskLaws.{masks-at}
 use Rattle.span.proofs.RowLaws.{rows-length}
 use Rattle.order.specs.Parts.{rowsP1, rowsP3}
 use Rattle.order.proofs.RowLaws.{rows-together}
-use Rattle.sheet.proofs.LayLaws.{padded-at, padded-length, padded-part}
-use Rattle.maps.specs.Opened.{openWidth, padded}
-use Rattle.plan.specs.Planned.{othersOfP1, keptOfP3, pairs, readStages}
-use Rattle.plan.specs.Inside.{staged, unitsOf}
+use Rattle.bits.specs.Padded.{arrayWidth, padded}
+use Rattle.bits.proofs.PaddedLaws.{padded-at, padded-length, padded-part}
+use Rattle.rows.specs.Listed.{listed, unitsOf}
+use Rattle.lay.specs.Staged.{pairs, staged}
+use Rattle.lay.proofs.PairLaws.{pairs-length}
+use Rattle.plan.specs.Planned.{othersOfP1, keptOfP3, readStages}
 use Rattle.plan.proofs.ChoiceLaws.{other-rows, as-many}
 use Rattle.plan.proofs.ListedLaws.{others-listed, kept-listed}
 use Rattle.plan.proofs.read_stages.Statement.{statement}
@@ -82,8 +87,11 @@ module _ (c : tie.After-list-rows2) where
 
   row-list : take (n - 0) (c .before .before .before .before .before .before .before .rows-of .result) ≡ scanned
   row-list =
-      ap (take (n - 0)) (c .before .before .before .before .before .before .before .rows-of .ensures)
-      ∙ padded-part openWidth (rows n (take (k - 0) C)) n (sym (rows-length n (take (k - 0) C)))
+      let ports = take (k - 0) C in
+      ap (take (n - 0)) (c .before .before .before .before .before .before .before .rows-of .ensures
+      ∙ ap (λ (m : ℕ). padded (rows m (take arrayWidth ports))) {x = min n arrayWidth} {y = n} (omega (arith, start .pre .sized .frame .most))
+      ∙ ap (λ (l : List ℕ). padded (rows n l)) (take-all arrayWidth ports (omega (arith, length-take (k - 0) C, within, start .pre .sized .frame .most))))
+      ∙ padded-part arrayWidth (rows n ports) n (sym (rows-length n ports))
       ∙ ap (λ (m : ℕ). rows n (take m C)) {x = k - 0} {y = k} (omega arith)
       ∙ rows-together n k C within (start .pre .order .count)
 
@@ -92,15 +100,22 @@ module _ (c : tie.After-list-rows2) where
 
   masked : (i : ℕ) → i < n → getD found i 0 ≡ mask scanned i
   masked i h =
-      ap (λ (l : List ℕ). getD l i 0) (c .before .before .before .before .masks-of .ensures ∙ ap (λ (l : List ℕ). padded (masks l)) row-list)
-      ∙ padded-at openWidth (masks scanned) i
+      ap (λ (l : List ℕ). getD l i 0) (c .before .before .before .before .masks-of .ensures ∙ ap (λ (l : List ℕ). padded (masks (take arrayWidth l))) row-list
+      ∙ ap (λ (l : List ℕ). padded (masks l)) (take-all arrayWidth scanned (omega (arith, all, start .pre .sized .frame .most))))
+      ∙ padded-at arrayWidth (masks scanned) i
       ∙ masks-at scanned i (rw all h)
 
   others : c .before .before .list-rows .result ≡ unitsOf (othersOfP1 k C)
-  others = c .before .before .list-rows .ensures ∙ ap unitsOf (others-listed n k C within found masked)
+  others =
+      c .before .before .list-rows .ensures
+      ∙ ap (λ (b : ℕ). unitsOf (listed found 0 b false)) {x = min k arrayWidth} {y = k} (omega (arith, start .pre .sized .most))
+      ∙ ap unitsOf (others-listed n k C within found masked)
 
   kept : c .list-rows2 .result ≡ unitsOf (keptOfP3 n k C)
-  kept = c .list-rows2 .ensures ∙ ap unitsOf (kept-listed n k C within found masked)
+  kept =
+      c .list-rows2 .ensures
+      ∙ ap (λ (b : ℕ). unitsOf (listed found k b true)) {x = min n arrayWidth} {y = n} (omega (arith, start .pre .sized .frame .most))
+      ∙ ap unitsOf (kept-listed n k C within found masked)
 
   abbrev count : ℕ
   count = c .before .before .list-rows .result .count
@@ -114,21 +129,25 @@ module _ (c : tie.After-list-rows2) where
   few : count ≤ 5
   few = omega (arith, directions, units-length (othersOfP1 k C), other-rows k C, start .pre .sized .most)
 
-  wide : (length (c .before .before .list-rows .result .units) ≡ openWidth) × (length (c .list-rows2 .result .units) ≡ openWidth)
+  wide : (length (c .before .before .list-rows .result .units) ≡ arrayWidth) × (length (c .list-rows2 .result .units) ≡ arrayWidth)
   wide = (
-    ap (λ r. length (r .units)) others ∙ padded-length openWidth (units (othersOfP1 k C)) (omega (arith, few, directions)),
-    ap (λ r. length (r .units)) kept ∙ padded-length openWidth (units (keptOfP3 n k C)) (omega (arith, few, controls)),
+    ap (λ r. length (r .units)) others ∙ padded-length arrayWidth (units (othersOfP1 k C)) (omega (arith, few, directions)),
+    ap (λ r. length (r .units)) kept ∙ padded-length arrayWidth (units (keptOfP3 n k C)) (omega (arith, few, controls)),
   )
 
   first : take (count - 0) (c .before .before .list-rows .result .units) ≡ units (othersOfP1 k C)
-  first = ap (λ r. take (count - 0) (r .units)) others ∙ padded-part openWidth (units (othersOfP1 k C)) count directions
+  first = ap (λ r. take (count - 0) (r .units)) others ∙ padded-part arrayWidth (units (othersOfP1 k C)) count directions
 
   second : take (count - 0) (c .list-rows2 .result .units) ≡ units (keptOfP3 n k C)
-  second = ap (λ r. take (count - 0) (r .units)) kept ∙ padded-part openWidth (units (keptOfP3 n k C)) count controls
+  second = ap (λ r. take (count - 0) (r .units)) kept ∙ padded-part arrayWidth (units (keptOfP3 n k C)) count controls
 
-  stages : staged (pairs (take (count - 0) (c .before .before .list-rows .result .units)) (take (count - 0) (c .list-rows2 .result .units))) ≡ staged (readStages n k C)
+  stages : staged (take (edition1 .most-stages) (pairs (take (count - 0) (c .before .before .list-rows .result .units)) (take (count - 0) (c .list-rows2 .result .units))))
+      ≡ staged (readStages n k C)
   unfolding readStages
-  stages = ap₂ (λ (ds cs : List ℕ). staged (pairs ds cs)) first second
+  stages =
+      let found-stages = pairs (units (othersOfP1 k C)) (units (keptOfP3 n k C)) in
+      ap₂ (λ (ds cs : List ℕ). staged (take (edition1 .most-stages) (pairs ds cs))) first second
+      ∙ ap staged (take-all (edition1 .most-stages) found-stages (omega (arith, few, pairs-length (units (othersOfP1 k C)) (units (keptOfP3 n k C)) (sym controls ∙ directions), directions)))
 
 sub-pair-up : tie.Need-sub-pair-up
 sub-pair-up c = search needs
@@ -149,9 +168,7 @@ part-pair-up-end-2 : tie.Need-part-pair-up-end-2
 part-pair-up-end-2 c = let l = c .before .before .before .before .before in omega (arith, few l, wide l .1)
 
 pair-up-requires : tie.Need-pair-up-requires
-pair-up-requires c κs =
-    let l = c .before .before .before .before .before .before in
-    rw (first l, second l) (record { alike = sym (controls l) ∙ directions l; room = omega (arith, few l, directions l) })
+pair-up-requires c κs = search needs
 
 returns : tie.Need-returns
 returns c = c .pair-up .ensures ∙ stages (c .before .before .before .before .before .before .before)

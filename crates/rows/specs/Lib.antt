@@ -1,0 +1,2 @@
+-- Rows that a scan kept, told from its masks.
+pub mod Listed

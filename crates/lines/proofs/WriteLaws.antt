@@ -1,9 +1,10 @@
 -- A text that is written into a buffer, part by part.
+--   puts-no                where there is no room, nothing is written
+--   puts-yes               where there is, all of it
 --   writes-none            nothing is written
 --   writes-byte            one byte
 --   writes-then            one part after the other
 --   writes-length          the buffer keeps its length
---   writes-onto            what is written from the first place on stands at the front, and the rest is as it came
 --   Left w at x v r y      of w, which is to be written into x from place at on, v is left to write, into y from place r on
 --   left-all               at first, all of it
 --   left-more              a part less
@@ -12,10 +13,15 @@ use Prim.Native.Nat.{ℕ, suc, _+_}
 use mathlib.Core.Path.{_≡_, refl, sym, ap, _∙_}
 use mathlib.Core.List.{List, [], _∷_, _++_}
 use native.Mathlib.Omega.{arith}
-use lib.ListN.{length, drop, set, length-append}
-use lib.Seq.{sets, length-sets, sets-eq}
-use Rattle.run.specs.Memory.{onto}
-use Rattle.card.specs.Inside.{Fits, Writes}
+use lib.ListN.{length, set, length-append}
+use lib.Seq.{sets, length-sets}
+use Rattle.lines.specs.Written.{Fits, Writes, Puts}
+
+pub puts-no : {w : List ℕ} {at : ℕ} {x : List ℕ} → ¬ Fits w at x → Puts w at x x at
+puts-no no-room = record { written = λ fits. absurd (no-room fits); refused = λ _. (refl, refl) }
+
+pub puts-yes : {w : List ℕ} {at : ℕ} {x x' : List ℕ} {r : ℕ} → Fits w at x → Writes w at x x' r → Puts w at x x' r
+puts-yes fits wrote = record { written = λ _. wrote; refused = λ no-room. absurd (no-room fits) }
 
 sets-append : (v w x : List ℕ) (at : ℕ) → sets x at (v ++ w) ≡ sets (sets x at v) (at + length v) w
 sets-append [] w x at = ap (λ (i : ℕ). sets x i w) {x = at} {y = at + 0} (omega arith)
@@ -39,9 +45,6 @@ module _ {v : List ℕ} {at : ℕ} {x y : List ℕ} {r : ℕ} (first : Writes v 
     next = omega (arith, length-append v w);
     text = then .text ∙ rw (first .next, first .text) (sym (sets-append v w x at));
   }
-
-pub writes-onto : {w x y : List ℕ} {r : ℕ} → Writes w 0 x y r → Fits w 0 x → y ≡ onto w x
-writes-onto {w} {x} wrote fits = wrote .text ∙ sets-eq w x 0 fits ∙ ap (λ (i : ℕ). w ++ drop i x) {x = 0 + length w} {y = length w} (omega arith)
 
 pub record Left (w : List ℕ) (at : ℕ) (x v : List ℕ) (r : ℕ) (y : List ℕ) : Type 0 where
   pub fits : Fits w at x

@@ -32,16 +32,6 @@ use Rattle.trial.specs.Trial.{wordAtPlace, lampOrder}
 use Rattle.card.specs.Listing.{spaced, line, stageLine, tickLine, listing}
 use Rattle.card.specs.Tool.{room}
 
-pub spaced-length : (m : ℕ) (ns : List ℕ) → 1 ≤ m → AllBelow (10 ^ m) ns → length (spaced ns) ≤ (m + 1) * length ns
-unfolding spaced
-spaced-length m [] some below = omega arith
-spaced-length m (x ∷ xs) some below =
-    let rest = spaced-length m xs some (λ j h. below (suc j) (omega arith)) in
-    omega (arith, rest, length-append (decimal x) (spaced xs), decimal-length m x some (below 0 (omega arith)), mul-suc (m + 1) (length xs))
-
-pub line-length : (name ns : List ℕ) → length (line name ns) ≡ length name + length (spaced ns) + 1
-line-length name ns = omega (arith, length-append name (spaced ns ++ (code "\n" ∷ [])), length-append (spaced ns) (code "\n" ∷ []))
-
 -- ---- the stages
 
 stage-numbers : (p q : ℕ) (ss : List Stage) → p ≤ 1000 → q ≤ 1000 → EachStage (StageInRange p q) ss → AllBelow 1000 (flat ss)

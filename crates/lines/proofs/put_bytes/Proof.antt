@@ -1,4 +1,4 @@
--- `card::put_bytes` meets its contract. The invariant: the bytes from the i-th on are left to write, from the i-th place on.
+-- `lines::put_bytes` meets its contract. The invariant: the bytes from the i-th on are left to write, from the i-th place on.
 use Prim.Native.Nat.{ℕ, _+_, _-_, _≤_, _<_}
 use mathlib.Core.Path.{_≡_, refl}
 use mathlib.Core.List.{List, [], _∷_}
@@ -6,12 +6,14 @@ use native.Mathlib.Nat.{add-zero}
 use native.Mathlib.Numerals.{add-one}
 use native.Mathlib.Omega.{arith}
 use borrow.Author.Needs.{needs}
+use borrow.Author.Tests.{not-true, not-false}
 use lib.ListN.{length, getD, drop, set, drop-of-length-le}
 use lib.Seq.{drop-cons}
-use Rattle.card.specs.Inside.{Fits, Writes}
-use Rattle.card.proofs.WriteLaws.{Left, left-all, left-more, left-done}
-use Rattle.card.proofs.put_bytes.Statement.{statement}
-use Rattle.card.proofs.put_bytes.Tie as tie
+use Rattle.kinds.proofs.TruthLaws.{denied}
+use Rattle.lines.specs.Written.{Fits, Writes}
+use Rattle.lines.proofs.WriteLaws.{puts-no, puts-yes, Left, left-all, left-more, left-done}
+use Rattle.lines.proofs.put_bytes.Statement.{statement}
+use Rattle.lines.proofs.put_bytes.Tie as tie
 
 record Writing (bytes : List ℕ) (at : ℕ) (text₀ text : List ℕ) (i : ℕ) : Type 0 where
   within : i ≤ length bytes
@@ -31,13 +33,19 @@ module _ {bytes : List ℕ} {at : ℕ} {text₀ text : List ℕ} {i : ℕ} (w : 
   done h = left-done (w .left) (drop-of-length-le bytes {i = i} h)
 
 abbrev Inv-loop : tie.InvT-loop
-Inv-loop text₀ at bytes i₀ text i = Writing bytes at text₀ text i
+Inv-loop text₀ at bytes fits i₀ text i = Writing bytes at text₀ text i
 
 abbrev μ-loop : tie.MeasureT-loop
-μ-loop text₀ at bytes i₀ text i = length bytes - i
+μ-loop text₀ at bytes fits i₀ text i = length bytes - i
+
+has-room-requires : tie.Need-has-room-requires Inv-loop μ-loop
+has-room-requires c κs = search needs
+
+returns : tie.Need-returns Inv-loop μ-loop
+returns c = puts-no (denied (c .before .has-room .ensures) (not-true _ (c .if1 .taken)))
 
 loop-holds : tie.Need-loop-holds Inv-loop μ-loop
-loop-holds c = start (c .pre)
+loop-holds c = start (c .before .has-room .ensures .0 (not-false _ (c .if1 .left)))
 
 shared-slice-read-text : tie.Need-shared-slice-read-text Inv-loop μ-loop
 shared-slice-read-text c = search needs
@@ -63,8 +71,10 @@ add-result c = search needs
 same-length : tie.Need-same-length Inv-loop μ-loop
 same-length c = search needs
 
-returns : tie.Need-returns Inv-loop μ-loop
-returns c = done (c .before .loop .inv) (omega (arith, c .loop-test .left))
+returns-2 : tie.Need-returns-2 Inv-loop μ-loop
+returns-2 c =
+    let written = c .before .loop .inv in
+    puts-yes (written .left .fits) (done written (omega (arith, c .loop-test .left)))
 
 pub put-bytes-spec : {M : Type 1} → statement M
 put-bytes-spec =
@@ -72,6 +82,8 @@ put-bytes-spec =
     (tie.spec
     Inv-loop
     μ-loop
+    has-room-requires
+    returns
     loop-holds
     shared-slice-read-text
     add-text
@@ -81,4 +93,4 @@ put-bytes-spec =
     loop-again
     add-result
     same-length
-    returns)
+    returns-2)

@@ -1,12 +1,8 @@
 -- The text of a listing (01, 'The order card').
---   spaced ns              the numbers ns, each with a space before it
---   lineEnd ns             what comes after the name of a line with the numbers ns
---   line name ns           a line: its name, and the numbers ns
 --   stageLine name ss      "stage count, then each direction and control"
 --   tickLine k l c         tick c of the frame l: its number, and its words, by port
 --   listing n k C          what is listed for the order with the columns C: "then each tick out"
 --   refusalLine x          "a refusal prints one line, as `refused 4`"
-use Prim.Native.Char.{code}
 use Prim.Native.Nat.{ℕ}
 use mathlib.Core.List.{List, [], _∷_, _++_, flatten}
 use lib.ListN.{length}
@@ -18,16 +14,7 @@ use Rattle.sheet.specs.Sheet.{Stage, flat}
 use Rattle.promise.specs.Series.{tickIn}
 use Rattle.plan.specs.Planned.{plannedRead, plannedWrite}
 use Rattle.trial.specs.Trial.{lampOrder}
-
-unfoldable pub spaced : List ℕ → List ℕ
-spaced [] = []
-spaced (x ∷ xs) = code " " ∷ decimal x ++ spaced xs
-
-abbrev pub lineEnd : List ℕ → List ℕ
-lineEnd ns = spaced ns ++ (code "\n" ∷ [])
-
-abbrev pub line : List ℕ → List ℕ → List ℕ
-line name ns = name ++ lineEnd ns
+use Rattle.lines.specs.Line.{line}
 
 abbrev pub stageLine : List ℕ → List Stage → List ℕ
 stageLine name ss = line name (length ss ∷ flat ss)

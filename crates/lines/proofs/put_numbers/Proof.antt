@@ -1,4 +1,4 @@
--- `card::put_numbers` meets its contract. The invariant: the numbers from the i-th on are left to write, and the newline.
+-- `lines::put_numbers` meets its contract. The invariant: the numbers from the i-th on are left to write, and the newline.
 use Prim.Native.Char.{code}
 use Prim.Native.Nat.{ℕ, _+_, _-_, _≤_, _<_}
 use mathlib.Core.Path.{_≡_, refl, ap}
@@ -7,12 +7,12 @@ use native.Mathlib.Omega.{arith}
 use borrow.Author.Needs.{needs}
 use lib.ListN.{length, getD, drop, set, length-append, length-set}
 use Rattle.text.specs.Decimal.{decimal}
-use Rattle.card.specs.Listing.{lineEnd}
-use Rattle.card.specs.Inside.{Writes}
-use Rattle.card.proofs.WriteLaws.{Left, writes-byte, left-all, left-more, left-done}
-use Rattle.card.proofs.LineLaws.{ending-more, ending-done}
-use Rattle.card.proofs.put_numbers.Statement.{statement}
-use Rattle.card.proofs.put_numbers.Tie as tie
+use Rattle.lines.specs.Line.{lineEnd}
+use Rattle.lines.specs.Written.{Writes}
+use Rattle.lines.proofs.WriteLaws.{Left, writes-byte, left-all, left-more, left-done}
+use Rattle.lines.proofs.LineLaws.{ending-more, ending-done}
+use Rattle.lines.proofs.put_numbers.Statement.{statement}
+use Rattle.lines.proofs.put_numbers.Tie as tie
 
 record Writing (ns : List ℕ) (at : ℕ) (text₀ text : List ℕ) (place i : ℕ) : Type 0 where
   left : Left (lineEnd ns) at text₀ (lineEnd (drop i ns)) place text
@@ -62,11 +62,11 @@ mul-number c = search needs
 shared-slice-read-number : tie.Need-shared-slice-read-number Inv-loop μ-loop
 shared-slice-read-number c = search needs
 
-add-put-number : tie.Need-add-put-number Inv-loop μ-loop
-add-put-number c = omega (arith, room (c .before .before .before .loop .inv) (c .before .before .loop-test .taken))
+add-put-digits : tie.Need-add-put-digits Inv-loop μ-loop
+add-put-digits c = omega (arith, room (c .before .before .before .loop .inv) (c .before .before .loop-test .taken))
 
-put-number-requires : tie.Need-put-number-requires Inv-loop μ-loop
-put-number-requires c κs = simp length-set (omega (arith, room (c .before .before .before .loop .inv) (c .before .before .loop-test .taken)))
+put-digits-requires : tie.Need-put-digits-requires Inv-loop μ-loop
+put-digits-requires c κs = simp length-set (omega (arith, room (c .before .before .before .loop .inv) (c .before .before .loop-test .taken)))
 
 add-i : tie.Need-add-i Inv-loop μ-loop
 add-i c = search needs
@@ -77,7 +77,7 @@ loop-less c = search needs
 loop-again : tie.Need-loop-again Inv-loop μ-loop
 loop-again c =
     let turn = c .before .before .before .before .before in
-    more (turn .before .loop .inv) (turn .loop-test .taken) (c .before .before .put-number .ensures)
+    more (turn .before .loop .inv) (turn .loop-test .taken) (c .before .before .put-digits .ensures)
 
 slice-write-text-2 : tie.Need-slice-write-text-2 Inv-loop μ-loop
 slice-write-text-2 c = omega (arith, last (c .before .loop .inv) (c .loop-test .left))
@@ -101,8 +101,8 @@ put-numbers-spec =
     slice-write-text
     mul-number
     shared-slice-read-number
-    add-put-number
-    put-number-requires
+    add-put-digits
+    put-digits-requires
     add-i
     loop-less
     loop-again

@@ -6,7 +6,6 @@ use mathlib.Core.Path.{_≡_, refl}
 use mathlib.Core.List.{List, [], _∷_, map, flatten}
 use native.Mathlib.Decide.{ℕ-discrete, decLe}
 use lib.Count.{ones}
-use lib.ListN.{replicate}
 use Rattle.kinds.specs.Edition.{edition1, sized?}
 use Rattle.kinds.specs.Frame.{inOrder}
 use Rattle.kinds.specs.First.{firstOf}
@@ -18,25 +17,24 @@ use Rattle.span.specs.Sums.{sumOf?, independent?}
 use Rattle.span.specs.Scan.{keptAt, others, mask, masks}
 use Rattle.span.specs.Rows.{dots, rows}
 use Rattle.text.specs.Decimal.{codes, decimalIn}
-use Rattle.text.specs.Numbers.{row}
 use Rattle.text.proofs.RowLaws.{row?}
 use Rattle.maps.specs.Cells.{afterStages}
 use Rattle.maps.specs.Stages.{keptStages}
 use Rattle.plan.specs.Planned.{othersOfP1, portsToZero, keptOfP3, pairs, readStages}
-use Rattle.card.specs.Card.{card?}
-use Rattle.card.specs.Listing.{spaced}
-use Rattle.card.specs.Tool.{printed}
+use Rattle.card.proofs.CardLaws.{card?}
+use Rattle.lines.specs.Line.{spaced}
+use Rattle.list.specs.Tool.{printed}
 
 planned : Unit {0}
 unfolding image columns ℕ-discrete sumOf? someBelow those keptAt others mask masks inOrder dots rows dot parity ones afterStages keptStages othersOfP1 portsToZero keptOfP3 pairs readStages
 planned = tt
 
 computed : Unit {0}
-unfolding planned codes decimalIn row row? card? decLe firstOf sized? rightLengths? independent? spaced flatten
+unfolding planned codes decimalIn row? card? decLe firstOf sized? rightLengths? independent? spaced flatten
 computed = tt
 
 abbrev prints : String → List ℕ
-prints s = printed edition1 (codes s)
+prints s = printed edition1 (card? (codes s))
 
 listings : map prints ("3 1 4 2 1\n" ∷ "3 1 1 3 6\n" ∷ "2 2 2 1\n" ∷ [])
     ≡ map codes (
@@ -51,8 +49,3 @@ refusals : map prints ("01 1 1\n" ∷ "2\n" ∷ "11 6\n" ∷ "2 3 4 4\n" ∷ "3 
     ≡ map codes ("refused 15\n" ∷ "refused 15\n" ∷ "refused 1\n" ∷ "refused 1\n" ∷ "refused 2\n" ∷ "refused 3\n" ∷ "refused 4\n" ∷ [])
 unfolding computed
 refusals = refl
-
--- 128 bytes are taken, 129 are not
-lengths : map (λ ns. printed edition1 (row ns)) (replicate 64 0 ∷ (10 ∷ replicate 63 0) ∷ []) ≡ map codes ("refused 1\n" ∷ "refused 15\n" ∷ [])
-unfolding computed
-lengths = refl

@@ -1,14 +1,11 @@
 -- There is room for every listing.
---   spaced-length     numbers below 10^m take at most m + 1 bytes each, with the space before them
---   line-length       a line is its name, its numbers and the newline
 --   lamps-below       the words in lamp order are words of the frame
 --   listing-fits      the listing of an order within the sizes has room
 use Prim.Native.Nat.{ℕ, zero, suc, _+_, _*_, _^_, _<_, _≤_}
-use Prim.Native.Char.{code}
 use mathlib.Core.Path.{_≡_}
 use mathlib.Core.List.{List, [], _∷_, _++_, flatten}
 use native.Mathlib.Decide.{ℕ-discrete, decLt}
-use native.Mathlib.Nat.{mul-suc, suc-mul}
+use native.Mathlib.Nat.{suc-mul}
 use native.Mathlib.Omega.{arith}
 use lib.ListN.{length, getD, length-append, List·getD-eq-default}
 use lib.Pow.{pow-pos, pow-mono}
@@ -29,8 +26,10 @@ use Rattle.plan.specs.Planned.{plannedRead, plannedWrite}
 use Rattle.plan.proofs.ChoiceLaws.{read-layable}
 use Rattle.plan.proofs.PlannedLaws.{write-layable}
 use Rattle.trial.specs.Trial.{wordAtPlace, lampOrder}
-use Rattle.card.specs.Listing.{spaced, line, stageLine, tickLine, listing}
-use Rattle.card.specs.Tool.{room}
+use Rattle.lines.specs.Line.{line}
+use Rattle.lines.proofs.LineLaws.{spaced-length, line-length}
+use Rattle.list.specs.Listing.{stageLine, tickLine, listing}
+use Rattle.list.specs.Tool.{room}
 
 -- ---- the stages
 

@@ -21,9 +21,10 @@ use Rattle.plan.specs.Planned.{plannedRead, plannedWrite, plannedSheet}
 use Rattle.plan.proofs.ChoiceLaws.{read-layable}
 use Rattle.plan.proofs.PlannedLaws.{write-layable}
 use Rattle.trial.specs.Trial.{lampOrder}
-use Rattle.card.specs.Listing.{line, stageLine, tickLine, listing}
-use Rattle.card.specs.Inside.{counted, Counted, tickLines, writeCount, readCount, Tried, trialText}
-use Rattle.card.proofs.LineLaws.{counted-stages}
+use Rattle.lines.specs.Line.{line}
+use Rattle.list.specs.Listing.{stageLine, tickLine, listing}
+use Rattle.list.specs.Inside.{counted, Counted, tickLines, writeCount, readCount, Tried, trialText}
+use Rattle.list.proofs.TickLaws.{counted-stages}
 
 module _ {n k : ℕ} {S : Side} (layable : Layable edition1 n k S) where
   abbrev addresses : List ℕ

@@ -1,9 +1,9 @@
--- `card::lent_right` meets its contract.
+-- `list::lent_right` meets its contract.
 use native.Mathlib.Omega.{arith}
 use borrow.Author.Tests.{eqb-true, eq-eqb}
 use Rattle.kinds.proofs.TruthLaws.{says-no}
-use Rattle.card.proofs.lent_right.Statement.{statement}
-use Rattle.card.proofs.lent_right.Tie as tie
+use Rattle.list.proofs.lent_right.Statement.{statement}
+use Rattle.list.proofs.lent_right.Tie as tie
 
 returns : tie.Need-returns
 returns c = says-no (λ right. omega (arith, right .0))

@@ -1,4 +1,4 @@
--- `card::list` meets its contract. A card that is read gives the order's table; where nothing is refused, the text has room.
+-- `list::list` meets its contract. A card that is read gives the order's table; where nothing is refused, the text has room.
 use Prim.Native.Nat.{ℕ, _-_, _≤_}
 use mathlib.Core.Path.{_≡_, refl, sym, ap, _∙_}
 use mathlib.Core.List.{List, [], _∷_}
@@ -17,16 +17,15 @@ use Rattle.order.specs.Order.{Order}
 use Rattle.order.proofs.TableLaws.{order-sound}
 use Rattle.run.specs.Memory.{onto}
 use Rattle.sheet.proofs.LayLaws.{padded-length}
-use Rattle.card.specs.Card.{mostColumns, columnsOn, unreadable, cardTable}
-use Rattle.card.specs.Listing.{listing}
-use Rattle.card.specs.Tool.{room, listLengths}
+use Rattle.card.specs.Card.{mostColumns, Readable, columnsOn, unreadable, cardTable}
+use Rattle.list.specs.Listing.{listing}
+use Rattle.list.specs.Tool.{room, listLengths}
 use Rattle.card.specs.declared.Reading.{Reading}
-use Rattle.card.proofs.CardLaws.{columns-few}
-use Rattle.card.proofs.ListLaws.{order-on-card, listed-read, one-set}
-use Rattle.card.proofs.RoomLaws.{listing-fits}
-use Rattle.card.proofs.WriteLaws.{writes-onto}
-use Rattle.card.proofs.list.Statement.{statement}
-use Rattle.card.proofs.list.Tie as tie
+use Rattle.card.proofs.CardLaws.{card?, columns-few}
+use Rattle.list.proofs.ListLaws.{order-on-card, listed-read, writes-onto, one-set}
+use Rattle.list.proofs.RoomLaws.{listing-fits}
+use Rattle.list.proofs.list.Statement.{statement}
+use Rattle.list.proofs.list.Tie as tie
 
 module _ (c : tie.After-read) where
   abbrev start : tie.Start
@@ -57,8 +56,8 @@ module _ (c : tie.After-check-with-k) where
   readable : R at .answer ≡ Done
   readable = c .before .before .before .before .before .before .is-done .ensures .0 (not-false _ (c .before .before .before .before .before .if1 .left))
 
-  says : said (c .check-with-k .result) ≡ firstOf (cardTable edition1 (b at) lengths)
-  says = c .check-with-k .ensures lengths (c .before .before .before .before .lent-right .ensures) ∙ order-on-card (at .read .ensures) readable lengths
+  says : (d : Dec (Readable (b at))) → said (c .check-with-k .result) ≡ firstOf (cardTable edition1 d lengths)
+  says d = c .check-with-k .ensures lengths (c .before .before .before .before .lent-right .ensures) ∙ order-on-card (at .read .ensures d) readable lengths
 
   module _ (done : c .check-with-k .result ≡ Done) where
     sound : Sized edition1 (R at .n) (R at .k) × RightLengths lengths × Order (R at .n) (columns at)
@@ -76,10 +75,10 @@ is-done-requires : tie.Need-is-done-requires
 is-done-requires c κs = search needs
 
 returns : tie.Need-returns
-returns c =
+returns c d =
     let at = c .before .before in
     let refused = denied (c .before .is-done .ensures) (not-true _ (c .if1 .taken)) in
-    refuses refused (said-before (unreadable (b at) ∷ []) _ (R at .answer) refused (at .read .ensures .answer)) (refl, refl)
+    refuses refused (said-before (unreadable d ∷ []) _ (R at .answer) refused (at .read .ensures d .answer)) (refl, refl)
 
 lent-right-requires : tie.Need-lent-right-requires
 lent-right-requires c κs = search needs
@@ -93,7 +92,9 @@ part-columns-start c = search needs
 part-columns-end : tie.Need-part-columns-end
 part-columns-end c =
     let at = c .before .before .before .before .before in
-    omega (arith, at .read .ensures .count, columns-few (b at), ap length (at .read .ensures .columns), padded-length mostColumns (columnsOn (b at)) (columns-few (b at)))
+    let d = card? (b at) in
+    let read = at .read .ensures d in
+    omega (arith, read .count, columns-few d, ap length (read .columns), padded-length mostColumns (columnsOn d) (columns-few d))
 
 check-with-k-requires : tie.Need-check-with-k-requires
 check-with-k-requires c κs = search needs
@@ -102,7 +103,7 @@ is-done-requires-2 : tie.Need-is-done-requires-2
 is-done-requires-2 c κs = search needs
 
 returns-2 : tie.Need-returns-2
-returns-2 c = refuses (denied (c .before .is-done2 .ensures) (not-true _ (c .if2 .taken))) (says (c .before .before)) (refl, refl)
+returns-2 c d = refuses (denied (c .before .is-done2 .ensures) (not-true _ (c .if2 .taken))) (says (c .before .before) d) (refl, refl)
 
 list-order-requires : tie.Need-list-order-requires
 list-order-requires c κs =
@@ -136,12 +137,12 @@ same-length-2 : tie.Need-same-length-2
 same-length-2 c = search needs
 
 returns-3 : tie.Need-returns-3
-returns-3 c =
+returns-3 c d =
     let at = at (made c) in
     let writes = c .before .before .list-order .ensures in
-    let same = listed-read (at .read .ensures) in
+    let same = listed-read (at .read .ensures d) in
     let end : c .before .before .list-order .result ≡ length (text c) = omega (arith, writes .next) in
-    does (done c) (says (made c)) (
+    does (done c) (says (made c) d) (
       writes-onto writes (omega (arith, fits (made c) (done c), lent c .0)) ∙ ap (λ (w : List ℕ). onto w (t at)) same,
       one-set (l at) (lent c .1 .0) ∙ ap (λ (x : ℕ). x ∷ []) (end ∙ ap length same),
     )

@@ -1,4 +1,4 @@
--- `card::list_order` meets its contract. The order is planned and run, so what is listed is its listing.
+-- `list::list_order` meets its contract. The order is planned and run, so what is listed is its listing.
 use Prim.Native.Nat.{ℕ, _-_, _^_, _≤_}
 use mathlib.Core.Path.{_≡_, refl, sym, ap, _∙_}
 use mathlib.Core.List.{List, [], _∷_, _++_}
@@ -17,10 +17,10 @@ use Rattle.sheet.specs.Table.{sheetLengths}
 use Rattle.run.proofs.PartLaws.{part-length, part-back}
 use Rattle.plan.specs.Planned.{plannedSheet}
 use Rattle.trial.specs.Trial.{lampOrder}
-use Rattle.card.proofs.RoomLaws.{listing-fits}
-use Rattle.card.proofs.TrialLaws.{planned-tried, planned-text}
-use Rattle.card.proofs.list_order.Statement.{statement}
-use Rattle.card.proofs.list_order.Tie as tie
+use Rattle.list.proofs.RoomLaws.{listing-fits}
+use Rattle.list.proofs.TrialLaws.{planned-tried, planned-text}
+use Rattle.list.proofs.list_order.Statement.{statement}
+use Rattle.list.proofs.list_order.Tie as tie
 
 module _ (c : tie.After-two-to) where
   abbrev start : tie.Start

@@ -1,4 +1,4 @@
--- `card::print` meets its contract.
+-- `list::print` meets its contract.
 use Prim.Native.Nat.{ℕ}
 use mathlib.Core.Path.{_≡_, refl, sym, ap, _∙_}
 use mathlib.Core.List.{List, [], _∷_}
@@ -13,12 +13,12 @@ use Rattle.kinds.specs.Refusal.{said}
 use Rattle.kinds.specs.declared.Refusal.{Refusal}
 use Rattle.text.specs.Decimal.{codes}
 use Rattle.run.specs.Memory.{onto}
-use Rattle.card.specs.Card.{cardTable}
-use Rattle.card.specs.Listing.{line}
-use Rattle.card.specs.Tool.{room, listLengths, textFor}
-use Rattle.card.proofs.ListLaws.{lengths-right, refusal-short, prints-by}
-use Rattle.card.proofs.print.Statement.{statement}
-use Rattle.card.proofs.print.Tie as tie
+use Rattle.card.specs.Card.{Readable, cardTable}
+use Rattle.lines.specs.Line.{line}
+use Rattle.list.specs.Tool.{room, listLengths, textFor}
+use Rattle.list.proofs.ListLaws.{lengths-right, refusal-short, prints-by}
+use Rattle.list.proofs.print.Statement.{statement}
+use Rattle.list.proofs.print.Tie as tie
 
 slice-aggregate-list : tie.Need-slice-aggregate-list
 slice-aggregate-list c = search needs
@@ -36,8 +36,8 @@ module _ (c : tie.After-list) where
   whole : length t ≡ room
   whole = omega (arith, slice-aggregate-list (c .before))
 
-  said-by : firstOf (cardTable edition1 b []) ≡ said (c .list .result)
-  said-by = sym (lengths-right b (listLengths t (0 ∷ [])) (omega (arith, whole), (refl, tt))) ∙ sym (c .list .ensures .first-of)
+  said-by : (d : Dec (Readable b)) → firstOf (cardTable edition1 d []) ≡ said (c .list .result)
+  said-by d = sym (lengths-right d (listLengths t (0 ∷ [])) (omega (arith, whole), (refl, tt))) ∙ sym (c .list .ensures d .first-of)
 
 list-requires : tie.Need-list-requires
 list-requires c κs = search needs
@@ -64,13 +64,13 @@ cast-result : tie.Need-cast-result
 cast-result c = fits-widen tt (c .shared-slice-known2 .given _)
 
 returns : tie.Need-returns
-returns c =
+returns c d =
     let made = c .before .before .before .before .before .before in
-    let (text, size) = made .list .ensures .done (ap said (c .before .before .before .enum-told .given .1)) in
-    let none : firstOf (cardTable edition1 (b made) []) ≡ none = said-by made ∙ ap said (c .before .before .before .enum-told .given .1) in
+    let (text, size) = made .list .ensures d .done (ap said (c .before .before .before .enum-told .given .1)) in
+    let none : firstOf (cardTable edition1 d []) ≡ none = said-by made d ∙ ap said (c .before .before .before .enum-told .given .1) in
     record {
-      length-of = ap (λ (l : List ℕ). getD (take 1 l) 0 0) size ∙ ap (λ (o : Option Refusal). length (textFor o (b made))) (sym none);
-      text = text ∙ ap (λ (o : Option Refusal). onto (textFor o (b made)) (t made)) (sym none);
+      length-of = ap (λ (l : List ℕ). getD (take 1 l) 0 0) size ∙ ap (λ (o : Option Refusal). length (textFor o d)) (sym none);
+      text = text ∙ ap (λ (o : Option Refusal). onto (textFor o d) (t made)) (sym none);
     }
 
 number-requires : tie.Need-number-requires
@@ -83,22 +83,21 @@ slice-aggregate-put-line-2 : tie.Need-slice-aggregate-put-line-2
 slice-aggregate-put-line-2 c = search needs
 
 put-line-requires : tie.Need-put-line-requires
-unfolding codes
-put-line-requires c κs =
-    omega (arith, refusal-short (c .before .before .before .number .result) (omega (arith, c .before .before .before .number .ok)), whole (c .before .before .before .before .before .before .before .before), c .before .before .before .before .before .before .before .before .list .kept .1 .0)
+put-line-requires c κs = search needs
 
 returns-2 : tie.Need-returns-2
 unfolding codes
-returns-2 c =
+returns-2 c d =
     let made = c .before .before .before .before .before .before .before .before .before in
     let number = c .before .before .before .before .number in
     let refused = c .before .before .before .before .before .before .answer .given .1 in
-    let given = said-by made ∙ ap said refused in
+    let given = said-by made d ∙ ap said refused in
+    let short = refusal-short (number .result) (omega (arith, number .ok)) in
     prints-by
-    (c .put-line .ensures)
-    (ap (λ (m : ℕ). line (codes "refused") (m ∷ [])) (number .ensures) ∙ ap (λ (o : Option Refusal). textFor o (b made)) (sym given))
-    (made .list .ensures .refused _ (ap said refused) .0)
-    (omega (arith, refusal-short (number .result) (omega (arith, number .ok)), whole made))
+    (c .put-line .ensures .written (omega (arith, short, whole made, made .list .kept .1 .0)))
+    (ap (λ (m : ℕ). line (codes "refused") (m ∷ [])) (number .ensures) ∙ ap (λ (o : Option Refusal). textFor o d) (sym given))
+    (made .list .ensures d .refused _ (ap said refused) .0)
+    (omega (arith, short, whole made))
 
 pub print-spec : {M : Type 1} → statement M
 print-spec =

@@ -1,4 +1,4 @@
--- `card::put_side` meets its contract. The part that is lent of the array is the count and the stages.
+-- `list::put_side` meets its contract. The part that is lent of the array is the count and the stages.
 use Prim.Native.Nat.{ℕ, _+_, _-_, _*_}
 use mathlib.Core.Path.{_≡_, ap, _∙_}
 use mathlib.Core.List.{List}
@@ -7,9 +7,9 @@ use borrow.Author.Needs.{needs}
 use lib.ListN.{getD, take, length-take}
 use Rattle.sheet.specs.Sheet.{paddedTo}
 use Rattle.sheet.proofs.LayLaws.{padded-part}
-use Rattle.card.specs.Inside.{counted, Counted}
-use Rattle.card.proofs.put_side.Statement.{statement}
-use Rattle.card.proofs.put_side.Tie as tie
+use Rattle.list.specs.Inside.{counted, Counted}
+use Rattle.list.proofs.put_side.Statement.{statement}
+use Rattle.list.proofs.put_side.Tie as tie
 
 module _ {places : List ℕ} (counts : Counted places) where
   abbrev end : ℕ
@@ -55,10 +55,7 @@ part-put-line-end : tie.Need-part-put-line-end
 part-put-line-end c = search needs
 
 put-line-requires : tie.Need-put-line-requires
-put-line-requires c κs =
-    let wide = c .before .before .before in
-    let start = wide .before .before .before .before .before .before in
-    rw (listed (start .pre .0) (wide .widened .ensures)) (start .pre .1)
+put-line-requires c κs = search needs
 
 same-length : tie.Need-same-length
 same-length c = search needs
@@ -67,7 +64,7 @@ returns : tie.Need-returns
 returns c =
     let wide = c .before .before .before .before .before .before in
     let start = wide .before .before .before .before .before .before in
-    rw (listed (start .pre .0) (wide .widened .ensures)) at (c .before .before .put-line .ensures)
+    (rw (listed (start .pre .0) (wide .widened .ensures)) at (c .before .before .put-line .ensures)) .written (start .pre .1)
 
 pub put-side-spec : {M : Type 1} → statement M
 put-side-spec =

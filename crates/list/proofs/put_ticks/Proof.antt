@@ -1,4 +1,4 @@
--- `card::put_ticks` meets its contract. The invariant: the lines from tick c on are left to write, and this tick's words are those from start to end.
+-- `list::put_ticks` meets its contract. The invariant: the lines from tick c on are left to write, and this tick's words are those from start to end.
 use Prim.Native.Char.{code}
 use Prim.Native.Nat.{ℕ, suc, _+_, _-_, _*_, _/_, _^_, _≤_, _<_}
 use mathlib.Core.Path.{_≡_, refl, ap}
@@ -10,12 +10,13 @@ use lib.ListN.{length, take, drop, length-append}
 use lib.Pow.{pow-pos, pow-mono, shr-le}
 use Rattle.text.specs.Decimal.{decimal}
 use Rattle.promise.specs.Series.{tickIn}
-use Rattle.card.specs.Listing.{lineEnd}
-use Rattle.card.specs.Inside.{Writes, tickLines, Frames}
-use Rattle.card.proofs.WriteLaws.{Left, left-all, left-more, left-done}
-use Rattle.card.proofs.LineLaws.{ticksFrom, ticks-more, ticks-done, tick-part}
-use Rattle.card.proofs.put_ticks.Statement.{statement}
-use Rattle.card.proofs.put_ticks.Tie as tie
+use Rattle.lines.specs.Line.{lineEnd}
+use Rattle.lines.specs.Written.{Writes, Puts}
+use Rattle.list.specs.Inside.{tickLines, Frames}
+use Rattle.lines.proofs.WriteLaws.{writes-length, Left, left-all, left-more, left-done}
+use Rattle.list.proofs.TickLaws.{ticksFrom, ticks-more, ticks-done, tick-part}
+use Rattle.list.proofs.put_ticks.Statement.{statement}
+use Rattle.list.proofs.put_ticks.Tie as tie
 
 record Writing (k : ℕ) (l : List ℕ) (at : ℕ) (text₀ text : List ℕ) (ports place c start end : ℕ) : Type 0 where
   frames : Frames k l
@@ -52,15 +53,19 @@ module _ {k : ℕ} {l : List ℕ} {at : ℕ} {text₀ text : List ℕ} {ports pl
         rw part
         (omega (arith, w .left, ap length this, length-append (decimal c) (code ":" ∷ rest), length-append (lineEnd (tickIn k l c)) (ticksFrom k l (c + 1))))
 
-    more : {x y z : List ℕ} {p q r : ℕ} → Writes (decimal c) place text x p → Writes (code ":" ∷ []) p x y q
-        → Writes (lineEnd (take (end - start) (drop start l))) q y z r → Writing k l at text₀ z ports r (c + 1) end (end + ports)
-    more label colon numbers = record {
-      frames = w .frames;
-      words = w .words;
-      begins = omega (arith, w .begins, w .ends, w .words, suc-mul c (2 ^ k));
-      ends = refl;
-      left = left-more (left-more (left-more (w .left) this label) refl colon) refl (rw part at numbers);
-    }
+    more : {x y z : List ℕ} {p q r : ℕ} → Puts (decimal c) place text x p → Puts (code ":" ∷ []) p x y q
+        → Puts (lineEnd (take (end - start) (drop start l))) q y z r → Writing k l at text₀ z ports r (c + 1) end (end + ports)
+    more puts-label puts-colon puts-numbers =
+        let label = puts-label .written (omega (arith, room)) in
+        let colon = puts-colon .written (omega (arith, room, label .next, writes-length label)) in
+        let numbers = puts-numbers .written (omega (arith, room, label .next, writes-length label, colon .next, writes-length colon)) in
+        record {
+          frames = w .frames;
+          words = w .words;
+          begins = omega (arith, w .begins, w .ends, w .words, suc-mul c (2 ^ k));
+          ends = refl;
+          left = left-more (left-more (left-more (w .left) this label) refl colon) refl (rw part at numbers);
+        }
 
   done : length l < end → Writes (tickLines k l) at text₀ text place
   done h =
@@ -68,10 +73,10 @@ module _ {k : ℕ} {l : List ℕ} {at : ℕ} {text₀ text : List ℕ} {ports pl
       left-done (w .left) (ticks-done k l c (omega (arith, over)))
 
 abbrev Inv-loop : tie.InvT-loop
-Inv-loop text₀ at k frame ports place₀ c₀ start₀ end₀ t12 text place c start end = Writing k frame at text₀ text ports place c start end
+Inv-loop text₀ at k frame ports place₀ c₀ start₀ end₀ t12 t13 text place c start end = Writing k frame at text₀ text ports place c start end
 
 abbrev μ-loop : tie.MeasureT-loop
-μ-loop text₀ at k frame ports place₀ c₀ start₀ end₀ t12 text place c start end = length frame - start
+μ-loop text₀ at k frame ports place₀ c₀ start₀ end₀ t12 t13 text place c start end = length frame - start
 
 inside : (c : tie.In-loop Inv-loop μ-loop) → c .before .loop .end ≤ length (c .before .before .before .before .before .args .frame .now)
 inside c = omega (arith, c .loop-test .taken)
@@ -94,59 +99,55 @@ loop-holds c =
     }
 
 put-number-requires : tie.Need-put-number-requires Inv-loop μ-loop
-put-number-requires c κs = omega (arith, room (c .before .before .loop .inv) (inside (c .before)))
+put-number-requires c κs = search needs
 
 slice-aggregate-put-bytes : tie.Need-slice-aggregate-put-bytes Inv-loop μ-loop
 slice-aggregate-put-bytes c = search needs
 
 put-bytes-requires : tie.Need-put-bytes-requires Inv-loop μ-loop
-put-bytes-requires c κs =
-    let label = c .before .before .before .before in
-    let turn = label .before .before in
-    omega (arith, label .put-number, room (turn .before .loop .inv) (inside turn))
+put-bytes-requires c κs = search needs
 
-mul-put-numbers : tie.Need-mul-put-numbers Inv-loop μ-loop
-mul-put-numbers c =
-    let turn = c .before .before .before .before .before .before .before .before .before .before in
+slice-aggregate-put-line : tie.Need-slice-aggregate-put-line Inv-loop μ-loop
+slice-aggregate-put-line c = search needs
+
+mul-put-line : tie.Need-mul-put-line Inv-loop μ-loop
+mul-put-line c =
+    let turn = c .before .before .before .before .before .before .before .before .before .before .before in
     omega (arith, inside turn, turn .before .before .before .before .before .good)
 
-sub-put-numbers : tie.Need-sub-put-numbers Inv-loop μ-loop
-sub-put-numbers c = search needs
+sub-put-line : tie.Need-sub-put-line Inv-loop μ-loop
+sub-put-line c = search needs
 
-part-put-numbers-start : tie.Need-part-put-numbers-start Inv-loop μ-loop
-part-put-numbers-start c = search needs
+part-put-line-start : tie.Need-part-put-line-start Inv-loop μ-loop
+part-put-line-start c = search needs
 
-part-put-numbers-end : tie.Need-part-put-numbers-end Inv-loop μ-loop
-part-put-numbers-end c = search needs
+part-put-line-end : tie.Need-part-put-line-end Inv-loop μ-loop
+part-put-line-end c = search needs
 
-put-numbers-requires : tie.Need-put-numbers-requires Inv-loop μ-loop
-put-numbers-requires c κs =
-    let colon = c .before .before .before .before in
-    let label = colon .before .before .before .before .before in
-    let turn = label .before .before in
-    omega (arith, label .put-number, colon .put-bytes, room (turn .before .loop .inv) (inside turn))
+put-line-requires : tie.Need-put-line-requires Inv-loop μ-loop
+put-line-requires c κs = search needs
 
 add-c : tie.Need-add-c Inv-loop μ-loop
 add-c c =
-    let turn = c .before .before .before .before .before .before .before .before .before .before .before .before .before .before in
+    let turn = c .before .before .before .before .before .before .before .before .before .before .before .before .before .before .before in
     omega (arith, few (turn .before .loop .inv) (inside turn))
 
 add-end : tie.Need-add-end Inv-loop μ-loop
 add-end c =
-    let turn = c .before .before .before .before .before .before .before .before .before .before .before .before .before .before in
+    let turn = c .before .before .before .before .before .before .before .before .before .before .before .before .before .before .before in
     omega (arith, inside turn, turn .before .loop .inv .words, turn .before .before .before .before .before .good, ports-few (turn .before .loop .inv))
 
 loop-less : tie.Need-loop-less Inv-loop μ-loop
 loop-less c =
-    let turn = c .before .before .before .before .before .before .before .before .before .before .before .before .before .before in
+    let turn = c .before .before .before .before .before .before .before .before .before .before .before .before .before .before .before in
     omega (arith, some (turn .before .loop .inv), turn .before .loop .inv .ends, inside turn)
 
 loop-again : tie.Need-loop-again Inv-loop μ-loop
 loop-again c =
-    let colon = c .before .before .before .before .before .before .before in
+    let colon = c .before .before .before .before .before .before .before .before in
     let label = colon .before .before .before .before .before in
     let turn = label .before .before in
-    more (turn .before .loop .inv) (inside turn) (label .put-number .ensures) (colon .put-bytes .ensures) (c .before .before .put-numbers .ensures)
+    more (turn .before .loop .inv) (inside turn) (label .put-number .ensures) (colon .put-bytes .ensures) (c .before .before .put-line .ensures)
 
 same-length : tie.Need-same-length Inv-loop μ-loop
 same-length c = c .before .loop .inv .left .same
@@ -166,11 +167,12 @@ put-ticks-spec =
     put-number-requires
     slice-aggregate-put-bytes
     put-bytes-requires
-    mul-put-numbers
-    sub-put-numbers
-    part-put-numbers-start
-    part-put-numbers-end
-    put-numbers-requires
+    slice-aggregate-put-line
+    mul-put-line
+    sub-put-line
+    part-put-line-start
+    part-put-line-end
+    put-line-requires
     add-c
     add-end
     loop-less

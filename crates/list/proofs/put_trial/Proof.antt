@@ -1,15 +1,16 @@
--- `card::put_trial` meets its contract. There is room for each line after those before it.
+-- `list::put_trial` meets its contract. There is room for each line after those before it.
 use Prim.Native.Nat.{ℕ, _+_, _≤_}
 use mathlib.Core.List.{List, [], _∷_, _++_}
 use native.Mathlib.Omega.{arith}
 use borrow.Author.Needs.{needs}
 use lib.ListN.{length, length-append}
 use Rattle.text.specs.Decimal.{codes}
-use Rattle.card.specs.Listing.{line}
-use Rattle.card.specs.Inside.{counted, tickLines, writeCount, readCount}
-use Rattle.card.proofs.WriteLaws.{writes-then}
-use Rattle.card.proofs.put_trial.Statement.{statement}
-use Rattle.card.proofs.put_trial.Tie as tie
+use Rattle.lines.specs.Line.{line}
+use Rattle.lines.specs.Written.{Writes}
+use Rattle.list.specs.Inside.{counted, tickLines, writeCount, readCount}
+use Rattle.lines.proofs.WriteLaws.{writes-then}
+use Rattle.list.proofs.put_trial.Statement.{statement}
+use Rattle.list.proofs.put_trial.Tie as tie
 
 module _ (c : tie.Start) where
   abbrev orders : List ℕ
@@ -58,8 +59,16 @@ slice-aggregate-put-line-2 : tie.Need-slice-aggregate-put-line-2
 slice-aggregate-put-line-2 c = search needs
 
 put-line-requires : tie.Need-put-line-requires
-unfolding codes
-put-line-requires c κs = omega (arith, room (c .before .before .before .before .before .before .before .before))
+put-line-requires c κs = search needs
+
+-- the first line was written
+module _ (c : tie.After-put-line) where
+  abbrev start : tie.Start
+  start = c .before .before .before .before .before .before .before .before .before
+
+  ordered : Writes (orders start) 0 (start .args .text .now) (c .put-line .last .0) (c .put-line .result)
+  unfolding codes
+  ordered = c .put-line .ensures .written (omega (arith, room start))
 
 slice-aggregate-put-side : tie.Need-slice-aggregate-put-side
 slice-aggregate-put-side c = search needs
@@ -67,9 +76,8 @@ slice-aggregate-put-side c = search needs
 put-side-requires : tie.Need-put-side-requires
 unfolding codes
 put-side-requires c κs =
-    let ordered = c .before .before .before .before in
-    let start = ordered .before .before .before .before .before .before .before .before .before in
-    (start .pre .0 .write, omega (arith, ordered .put-line .ensures .next, ordered .put-line .kept .0, room start))
+    let at = c .before .before .before .before in
+    (start at .pre .0 .write, omega (arith, ordered at .next, at .put-line .kept .0, room (start at)))
 
 slice-aggregate-put-side-2 : tie.Need-slice-aggregate-put-side-2
 slice-aggregate-put-side-2 c = search needs
@@ -78,10 +86,9 @@ put-side-requires-2 : tie.Need-put-side-requires-2
 unfolding codes
 put-side-requires-2 c κs =
     let written = c .before .before .before .before in
-    let ordered = written .before .before .before .before .before in
-    let start = ordered .before .before .before .before .before .before .before .before .before in (
-      start .pre .0 .read,
-      omega (arith, written .put-side .ensures .next, written .put-side .kept .0, ordered .put-line .ensures .next, ordered .put-line .kept .0, room start),
+    let at = written .before .before .before .before .before in (
+      start at .pre .0 .read,
+      omega (arith, written .put-side .ensures .next, written .put-side .kept .0, ordered at .next, at .put-line .kept .0, room (start at)),
     )
 
 put-ticks-requires : tie.Need-put-ticks-requires
@@ -89,18 +96,17 @@ unfolding codes
 put-ticks-requires c κs =
     let read = c .before .before .before in
     let written = read .before .before .before .before .before in
-    let ordered = written .before .before .before .before .before in
-    let start = ordered .before .before .before .before .before .before .before .before .before in (
-      start .pre .0 .frame,
+    let at = written .before .before .before .before .before in (
+      start at .pre .0 .frame,
       omega (
         arith,
         read .put-side2 .ensures .next,
         read .put-side2 .kept .0,
         written .put-side .ensures .next,
         written .put-side .kept .0,
-        ordered .put-line .ensures .next,
-        ordered .put-line .kept .0,
-        room start,
+        ordered at .next,
+        at .put-line .kept .0,
+        room (start at),
       ),
     )
 
@@ -112,7 +118,7 @@ unfolding codes
 returns c =
     let read = c .before .before .before .before .before .before in
     let written = read .before .before .before .before .before in
-    writes-then (written .before .before .before .before .before .put-line .ensures)
+    writes-then (ordered (written .before .before .before .before .before))
     (writes-then (written .put-side .ensures) (writes-then (read .put-side2 .ensures) (c .before .before .put-ticks .ensures)))
 
 pub put-trial-spec : {M : Type 1} → statement M

@@ -222,14 +222,19 @@ digits-unique {b} {r} {s} {v} {w} g h =
     let (m, on) = reach (decimal v) r (decimal w) s (number-digits v) (h .ended) e in
     let (l, back) = reach (decimal w) s (decimal v) r (number-digits w) (g .ended) (sym e) in
     let same : length (decimal v) ≡ length (decimal w) =
-    omega (arith, ap length on, ap length back, length-append (decimal v) m, length-append (decimal w) l) in
-    (sym (number-value v) ∙ ap (value 0) (sym (take-at (decimal v) r (length (decimal v)) refl) ∙ ap (take (length (decimal v))) e ∙ take-at (decimal w) s (length (decimal v)) (sym same)) ∙ number-value w,
-    sym (drop-at (decimal v) r (length (decimal v)) refl) ∙ ap (drop (length (decimal v))) e ∙ drop-at (decimal w) s (length (decimal v)) (sym same))
+    omega (arith, ap length on, ap length back, length-append (decimal v) m, length-append (decimal w) l) in (
+      sym (number-value v) ∙ ap (value 0) (sym (take-at (decimal v) r (length (decimal v)) refl) ∙ ap (take (length (decimal v))) e ∙ take-at (decimal w) s (length (decimal v)) (sym same)) ∙ number-value w,
+      sym (drop-at (decimal v) r (length (decimal v)) refl) ∙ ap (drop (length (decimal v))) e ∙ drop-at (decimal w) s (length (decimal v)) (sym same),
+    )
 
 starts-shorter : (b : List ℕ) (i j : ℕ) → i ≤ j → Starts (take j b) → Starts (take i b)
-starts-shorter b i j h (v, m, small, same) =
-    (v, drop i (take j b) ++ m, small, sym (append-assoc (take i b) (drop i (take j b)) m)
-    ∙ ap (λ (l : List ℕ). l ++ m) (ap (λ (l : List ℕ). l ++ drop i (take j b)) (sym (take-take i j b h)) ∙ take-append-drop i (take j b)) ∙ same)
+starts-shorter b i j h (v, m, small, same) = (
+  v,
+  drop i (take j b) ++ m,
+  small,
+  sym (append-assoc (take i b) (drop i (take j b)) m)
+      ∙ ap (λ (l : List ℕ). l ++ m) (ap (λ (l : List ℕ). l ++ drop i (take j b)) (sym (take-take i j b h)) ∙ take-append-drop i (take j b)) ∙ same,
+)
 
 pub stops-unique : {b : List ℕ} {i j : ℕ} → Stops b i → Stops b j → i ≡ j
 stops-unique {b} {i} {j} g h = elim (decLt i j) [

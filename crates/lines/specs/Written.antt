@@ -1,7 +1,7 @@
 -- Bytes that are written into a text.
 --   Fits w at x            there is room for w from place at of the text x on
---   Writes w at x x' r     w is written into the text x, from place at on, and r is the place after it
---   Puts w at x x' r       so it is where there is room; where there isn't, the text is as it came, and r is at
+--   Writes w at x x' r     w is written into the text x, from place at on, the rest is as it came, and r is the place after w
+--   Puts w at x x' r       w is put there: where there is room it is written so; where there isn't, the whole text is as it came, and r is at
 use Prim.Native.Nat.{ℕ, _+_, _≤_}
 use mathlib.Core.Path.{_≡_}
 use mathlib.Core.List.{List}

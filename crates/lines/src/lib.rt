@@ -7,6 +7,11 @@ ghost use Rattle.text.specs.Decimal.{decimal};
 ghost use Rattle.lines.specs.Line.{lineEnd, line};
 ghost use Rattle.lines.specs.Written.{Fits, Writes, Puts};
 
+// No number of 32 bits has more, and none takes more after a space.
+const MOST_DIGITS: usize = 10;
+
+const MOST_SPACED: usize = MOST_DIGITS + 1;
+
 pub fn put_bytes(text: &mut [u8], at: usize, bytes: &[u8]) -> usize
     ensures { λ r. ⌜ Puts (now (bytes .entry)) at (now (text .entry)) (now (text .exit)) r ⌝ }
 {
@@ -25,8 +30,7 @@ pub fn put_bytes(text: &mut [u8], at: usize, bytes: &[u8]) -> usize
 pub fn put_number(text: &mut [u8], at: usize, number: u32) -> usize
     ensures { λ r. ⌜ Puts (decimal number) at (now (text .entry)) (now (text .exit)) r ⌝ }
 {
-    let digits = width(number);
-    let fits = has_room(text.len(), at, digits);
+    let fits = number_fits(text.len(), at, number);
     if !fits {
         return at;
     }
@@ -55,7 +59,19 @@ fn has_room(places: usize, at: usize, bytes: usize) -> bool
     bytes <= places - at
 }
 
-// Whether a line has, where its name has so many bytes.
+// Whether a number has. Its digits are counted only where there is little room.
+fn number_fits(places: usize, at: usize, number: u32) -> bool
+    ensures { λ r. ⌜ Says r (at + length (decimal number) ≤ places) ⌝ }
+{
+    let plenty = has_room(places, at, MOST_DIGITS);
+    if plenty {
+        return true;
+    }
+    let digits = width(number);
+    has_room(places, at, digits)
+}
+
+// Whether a line has, where its name has so many bytes. The same goes for its numbers.
 fn line_fits(places: usize, at: usize, name: usize, numbers: &[u32]) -> bool
     ensures { λ r. ⌜ Says r (at + (name + length (lineEnd (now (numbers .entry)))) ≤ places) ⌝ }
 {
@@ -64,6 +80,9 @@ fn line_fits(places: usize, at: usize, name: usize, numbers: &[u32]) -> bool
         return false;
     }
     let mut end = at + name;
+    if numbers.len() < (places - end) / MOST_SPACED {
+        return true;
+    }
     let mut i = 0;
     while i < numbers.len() {
         let number = numbers[i];

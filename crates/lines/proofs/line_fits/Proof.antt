@@ -8,11 +8,11 @@ use borrow.Author.Needs.{needs}
 use borrow.Author.Tests.{ltb-true, lt-ltb, not-true, not-false}
 use lib.ListN.{length, getD, drop, length-append}
 use Rattle.kinds.specs.Answers.{Says}
-use Rattle.kinds.proofs.TruthLaws.{says-no, denied}
+use Rattle.kinds.proofs.TruthLaws.{says-no, says-yes, denied}
 use Rattle.text.specs.Decimal.{decimal}
 use Rattle.text.proofs.DecimalLaws.{decimal-length}
 use Rattle.lines.specs.Line.{lineEnd}
-use Rattle.lines.proofs.LineLaws.{ending-more, ending-done}
+use Rattle.lines.proofs.LineLaws.{ending-more, ending-done, ending-length}
 use Rattle.lines.proofs.line_fits.Statement.{statement}
 use Rattle.lines.proofs.line_fits.Tie as tie
 
@@ -51,11 +51,23 @@ has-room-requires c κs = search needs
 returns : tie.Need-returns Inv-loop μ-loop
 returns c = says-no (λ fits. denied (c .before .has-room .ensures) (not-true _ (c .if1 .taken)) (omega arith))
 
+-- the name has room
+named : (c : tie.Else1 Inv-loop μ-loop) → c .before .before .before .args .at + c .before .before .before .args .name ≤ c .before .before .before .args .places
+named c = c .before .has-room .ensures .0 (not-false _ (c .if1 .left))
+
 add-end : tie.Need-add-end Inv-loop μ-loop
-add-end c = omega (arith, c .before .has-room .ensures .0 (not-false _ (c .if1 .left)))
+add-end c = omega (arith, named c)
+
+sub-if2 : tie.Need-sub-if2 Inv-loop μ-loop
+sub-if2 c = omega (arith, named c)
+
+returns-2 : tie.Need-returns-2 Inv-loop μ-loop
+returns-2 c =
+    let start = c .before .before .before .before in
+    says-yes (omega (arith, named (c .before), c .if2 .taken, ending-length (start .args .numbers .now) (λ j h. omega (arith, c .before .before .before .shared-slice-known .given j))))
 
 loop-holds : tie.Need-loop-holds Inv-loop μ-loop
-loop-holds c = record { within = c .before .has-room .ensures .0 (not-false _ (c .if1 .left)); left = omega arith }
+loop-holds c = record { within = named (c .before); left = omega arith }
 
 mul-number : tie.Need-mul-number Inv-loop μ-loop
 mul-number c = search needs
@@ -70,19 +82,19 @@ add-spaced : tie.Need-add-spaced Inv-loop μ-loop
 add-spaced c =
     let turn = c .before .before in
     let i = turn .before .loop .i in
-    let number = getD (turn .before .before .before .before .before .args .numbers .now) i 0 in
+    let number = getD (turn .before .before .before .before .before .before .args .numbers .now) i 0 in
     omega (arith, c .width .ensures, decimal-length 10 number (omega arith) (omega (arith, c .before .shared-slice-known2 .given i)))
 
 has-room-requires-2 : tie.Need-has-room-requires-2 Inv-loop μ-loop
 has-room-requires-2 c κs = search needs
 
-returns-2 : tie.Need-returns-2 Inv-loop μ-loop
-returns-2 c =
+returns-3 : tie.Need-returns-3 Inv-loop μ-loop
+returns-3 c =
     let turn = c .before .before .before .before in
-    says-no (short (turn .before .loop .inv) (turn .loop-test .taken) (omega (arith, c .before .before .width .ensures)) (denied (c .before .has-room2 .ensures) (not-true _ (c .if2 .taken))))
+    says-no (short (turn .before .loop .inv) (turn .loop-test .taken) (omega (arith, c .before .before .width .ensures)) (denied (c .before .has-room2 .ensures) (not-true _ (c .if3 .taken))))
 
-abbrev fits : (c : tie.Else2 Inv-loop μ-loop) → c .before .before .before .before .before .loop .end + (1 + c .before .before .width .result) ≤ c .before .before .before .before .before .before .before .before .before .args .places
-fits c = c .before .has-room2 .ensures .0 (not-false _ (c .if2 .left))
+abbrev fits : (c : tie.Else3 Inv-loop μ-loop) → c .before .before .before .before .before .loop .end + (1 + c .before .before .width .result) ≤ c .before .before .before .before .before .before .before .before .before .before .args .places
+fits c = c .before .has-room2 .ensures .0 (not-false _ (c .if3 .left))
 
 add-end-2 : tie.Need-add-end-2 Inv-loop μ-loop
 add-end-2 c = omega (arith, fits c)
@@ -98,8 +110,8 @@ loop-again c =
     let turn = c .before .before .before .before in
     more (turn .before .loop .inv) (turn .loop-test .taken) (omega (arith, c .before .before .width .ensures)) (fits c)
 
-returns-3 : tie.Need-returns-3 Inv-loop μ-loop
-returns-3 c = last (c .before .loop .inv) (c .loop-test .left)
+returns-4 : tie.Need-returns-4 Inv-loop μ-loop
+returns-4 c = last (c .before .loop .inv) (c .loop-test .left)
 
 pub line-fits-spec : {M : Type 1} → statement M
 line-fits-spec =
@@ -110,15 +122,17 @@ line-fits-spec =
     has-room-requires
     returns
     add-end
+    sub-if2
+    returns-2
     loop-holds
     mul-number
     shared-slice-read-number
     width-requires
     add-spaced
     has-room-requires-2
-    returns-2
+    returns-3
     add-end-2
     add-i
     loop-less
     loop-again
-    returns-3)
+    returns-4)

@@ -1,13 +1,13 @@
 -- `lines::put_line` meets its contract. Where the whole line has room, the name has, and after it the numbers.
 use Prim.Native.Nat.{ℕ, _+_, _≤_}
-use mathlib.Core.List.{List, _++_}
+use mathlib.Core.List.{List}
 use native.Mathlib.Omega.{arith}
 use borrow.Author.Needs.{needs}
 use borrow.Author.Tests.{not-true, not-false}
 use lib.ListN.{length, length-append}
 use Rattle.kinds.proofs.TruthLaws.{denied}
-use Rattle.lines.specs.Line.{lineEnd, line}
-use Rattle.lines.specs.Written.{Fits, Writes}
+use Rattle.lines.specs.Line.{lineEnd}
+use Rattle.lines.specs.Written.{Writes}
 use Rattle.lines.proofs.WriteLaws.{puts-no, puts-yes, writes-then}
 use Rattle.lines.proofs.put_line.Statement.{statement}
 use Rattle.lines.proofs.put_line.Tie as tie

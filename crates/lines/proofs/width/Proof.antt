@@ -1,11 +1,10 @@
 -- `lines::width` meets its contract. The invariant: the digits that were counted, and those of the rest, make the number's.
-use Prim.Native.Nat.{ℕ, _+_, _/_, _≤_}
+use Prim.Native.Nat.{ℕ, _+_, _≤_}
 use mathlib.Core.Path.{_≡_, ap}
 use native.Mathlib.Omega.{arith}
-use borrow.Author.Needs.{needs}
 use lib.ListN.{length}
 use Rattle.text.specs.Decimal.{decimal}
-use Rattle.text.proofs.DecimalLaws.{decimal-small, decimal-longer, decimal-some, decimal-length}
+use Rattle.text.proofs.DecimalLaws.{decimal-small, decimal-longer, decimal-length}
 use Rattle.lines.proofs.width.Statement.{statement}
 use Rattle.lines.proofs.width.Tie as tie
 

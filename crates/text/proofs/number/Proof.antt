@@ -1,6 +1,6 @@
 -- `text::number` meets its contract. The invariant: from `at` up to `place` stand the digits that were read, which make `value`.
 use Prim.Native.Nat.{ℕ, suc, _+_, _-_, _≤_, _<_}
-use mathlib.Core.Path.{_≡_, refl, sym, ap, subst, _∙_}
+use mathlib.Core.Path.{_≡_, sym, ap, subst, _∙_}
 use mathlib.Core.List.{List, _∷_, _++_}
 use mathlib.Core.Logic.{⊎-elim}
 use borrow.Author.Needs.{needs}
@@ -8,7 +8,6 @@ use native.Mathlib.Numerals.{add-one}
 use native.Mathlib.Omega.{arith}
 use lib.ListN.{length, getD, drop, length-append, length-drop, drop-of-length-le}
 use lib.Seq.{drop-cons, append-snoc}
-use Rattle.text.specs.Decimal.{digit}
 use Rattle.text.specs.Number.{IsDigit, NoDigit, Stops, NumberIs}
 use Rattle.text.specs.declared.Numeral.the-variants.{Value, Bad}
 use Rattle.text.proofs.ReadLaws.{more, GoesOn, digits, Sofar, digits-more, digits-stop, digits-none, digits-end}

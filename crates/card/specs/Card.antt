@@ -8,7 +8,7 @@
 --   nOn d, kOn d, columnsOn d      n, k and the columns
 --   unreadable d       15: order card unreadable
 --   mostColumns        a number takes a byte at least, and what ends it another; two of the numbers are n and k
---   ReadAs d r         r says what the card says: 15 where it is unreadable; n, k, and the columns, with zeros after them
+--   ReadsAs d r        r says what the card says: 15 where it is unreadable; n, k, and the columns, with zeros after them
 --   Reads b r          what is read of the card b
 --   cardTable e d others           15, then 1 to 4, of the order on the card, where others are the lengths that were lent, and what they should be
 use Prim.Native.Nat.{ℕ, _-_, _/_, _≤_}
@@ -57,7 +57,7 @@ unreadable d = unless Card d
 abbrev pub mostColumns : ℕ
 mostColumns = longest / 2 - 2
 
-pub record ReadAs {b : List ℕ} (d : Dec (Readable b)) (r : Reading) : Type 0 where
+pub record ReadsAs {b : List ℕ} (d : Dec (Readable b)) (r : Reading) : Type 0 where
   pub answer : said (r .answer) ≡ firstOf (unreadable d ∷ [])
   pub n : r .n ≡ nOn d
   pub k : r .k ≡ kOn d
@@ -65,7 +65,7 @@ pub record ReadAs {b : List ℕ} (d : Dec (Readable b)) (r : Reading) : Type 0 w
   pub count : r .count ≡ length (columnsOn d)
 
 abbrev pub Reads : List ℕ → Reading → Type 0
-Reads b r = (d : Dec (Readable b)) → ReadAs d r
+Reads b r = (d : Dec (Readable b)) → ReadsAs d r
 
 abbrev pub cardTable : {b : List ℕ} → Edition → Dec (Readable b) → List (ℕ × ℕ) → List Reason
 cardTable e d others = unreadable d ∷ orderTable (sized? e (nOn d) (kOn d)) (nOn d) (columnsOn d) others

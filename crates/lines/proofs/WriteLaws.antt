@@ -1,6 +1,7 @@
 -- A text that is written into a buffer, part by part.
 --   puts-no                where there is no room, nothing is written
 --   puts-yes               where there is, all of it
+--   puts-unique            there is one text afterwards, and one answer
 --   writes-none            nothing is written
 --   writes-byte            one byte
 --   writes-then            one part after the other
@@ -12,6 +13,7 @@
 use Prim.Native.Nat.{ℕ, suc, _+_}
 use mathlib.Core.Path.{_≡_, refl, sym, ap, _∙_}
 use mathlib.Core.List.{List, [], _∷_, _++_}
+use native.Mathlib.Decide.{decLe}
 use native.Mathlib.Omega.{arith}
 use lib.ListN.{length, set, length-append}
 use lib.Seq.{sets, length-sets}
@@ -22,6 +24,12 @@ puts-no no-room = record { written = λ fits. absurd (no-room fits); refused = �
 
 pub puts-yes : {w : List ℕ} {at : ℕ} {x x' : List ℕ} {r : ℕ} → Fits w at x → Writes w at x x' r → Puts w at x x' r
 puts-yes fits wrote = record { written = λ _. wrote; refused = λ no-room. absurd (no-room fits) }
+
+pub puts-unique : {w : List ℕ} {at : ℕ} {x y z : List ℕ} {r q : ℕ} → Puts w at x y r → Puts w at x z q → (r ≡ q) × (y ≡ z)
+puts-unique {w} {at} {x} p o = elim (decLe (at + length w) (length x)) [
+  | yes fits ↦ (p .written fits .next ∙ sym (o .written fits .next), p .written fits .text ∙ sym (o .written fits .text))
+  | no full ↦ (p .refused full .0 ∙ sym (o .refused full .0), p .refused full .1 ∙ sym (o .refused full .1))
+]
 
 sets-append : (v w x : List ℕ) (at : ℕ) → sets x at (v ++ w) ≡ sets (sets x at v) (at + length v) w
 sets-append [] w x at = ap (λ (i : ℕ). sets x i w) {x = at} {y = at + 0} (omega arith)

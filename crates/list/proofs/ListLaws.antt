@@ -24,7 +24,7 @@ use Rattle.text.proofs.DecimalLaws.{decimal-length}
 use Rattle.order.specs.Table.{orderTable}
 use Rattle.run.specs.Memory.{onto}
 use Rattle.sheet.proofs.LayLaws.{padded-part}
-use Rattle.card.specs.Card.{mostColumns, Readable, columnsOn, unreadable, ReadAs, cardTable}
+use Rattle.card.specs.Card.{mostColumns, Readable, columnsOn, unreadable, ReadsAs, cardTable}
 use Rattle.lines.specs.Line.{spaced, line}
 use Rattle.lines.specs.Written.{Fits, Writes}
 use Rattle.list.specs.Listing.{listing}
@@ -34,7 +34,7 @@ use Rattle.card.specs.declared.Reading.{Reading}
 abbrev read : Reading → List ℕ
 read R = take (R .count - 0) (R .columns)
 
-module _ {b : List ℕ} {d : Dec (Readable b)} {R : Reading} (reads : ReadAs d R) where
+module _ {b : List ℕ} {d : Dec (Readable b)} {R : Reading} (reads : ReadsAs d R) where
   columns-read : read R ≡ columnsOn d
   columns-read = rw (reads .columns) (padded-part mostColumns (columnsOn d) (R .count) (reads .count))
 

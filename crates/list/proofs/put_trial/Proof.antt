@@ -77,7 +77,7 @@ put-side-requires : tie.Need-put-side-requires
 unfolding codes
 put-side-requires c κs =
     let at = c .before .before .before .before in
-    (start at .pre .0 .write, omega (arith, ordered at .next, at .put-line .kept .0, room (start at)))
+    (search (start at .pre .0), omega (arith, ordered at .next, at .put-line .kept .0, room (start at)))
 
 slice-aggregate-put-side-2 : tie.Need-slice-aggregate-put-side-2
 slice-aggregate-put-side-2 c = search needs
@@ -87,7 +87,7 @@ unfolding codes
 put-side-requires-2 c κs =
     let written = c .before .before .before .before in
     let at = written .before .before .before .before .before in (
-      start at .pre .0 .read,
+      search (start at .pre .0),
       omega (arith, written .put-side .ensures .next, written .put-side .kept .0, ordered at .next, at .put-line .kept .0, room (start at)),
     )
 

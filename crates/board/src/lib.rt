@@ -6,7 +6,7 @@ ghost use Rattle.kinds.specs.Refusal.{given, said as saidBy};
 ghost use Rattle.order.specs.Tools.{Inverts, Moves};
 ghost use Rattle.plan.specs.Tool.{Plans};
 ghost use Rattle.inspect.specs.Tool.{Inspects};
-ghost use Rattle.card.specs.Tool.{Lists};
+ghost use Rattle.list.specs.Tool.{Lists};
 ghost use Rattle.board.specs.Names.{Numbers, Reports, TicksAs, PricesAs};
 ghost use Rattle.board.specs.Inside.{WrongLength, Three, NamesPorts};
 use call::Ticked;
@@ -164,6 +164,6 @@ pub extern "C" fn board_price(n: u32, k: u32, sheet: &[u16], sums: &mut [u32]) -
 pub extern "C" fn board_list(card: &[u8], text: &mut [u8], length: &mut [u32]) -> u32
     ensures { λ r. ⌜ Numbers (Lists edition1 (now (card .entry)) (now (text .entry)) (now (text .exit)) (now (length .entry)) (now (length .exit))) r ⌝ }
 {
-    let answer = card::list(card, text, length);
+    let answer = list::list(card, text, length);
     number_of(answer)
 }

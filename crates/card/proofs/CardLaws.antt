@@ -1,5 +1,6 @@
 -- What is read of a card.
 --   two-places      a number and what ends it take two places at least
+--   card? b         whether b is a card, and its numbers
 --   is-card         the numbers on a card are its numbers
 --   no-card         on bytes that are no card there are none
 --   reads-card      what is read of a card
@@ -10,10 +11,12 @@
 --   card-others     after these two comes a row of numbers
 --   columns-few     there are no more columns than a reading has places for
 use Prim.Native.Nat.{ℕ, _+_, _*_, _≤_}
-use mathlib.Core.Path.{_≡_, refl, sym, ap, _∙_}
+use mathlib.Core.Path.{_≡_, refl, sym, ap, subst, _∙_}
 use mathlib.Core.List.{List, [], _∷_}
+use native.Mathlib.Decide.{decLe}
 use native.Mathlib.Omega.{arith}
 use lib.ListN.{length, drop, length-append, length-drop}
+use Rattle.kinds.specs.Decided.{both}
 use Rattle.kinds.specs.declared.Answer.{Answer}
 use Rattle.kinds.specs.declared.Answer.the-variants.{Done, Refused}
 use Rattle.kinds.specs.declared.Refusal.the-variants.{Card}
@@ -22,9 +25,9 @@ use Rattle.kinds.proofs.FirstLaws.{first-take, first-skip, first-nil}
 use Rattle.text.specs.Decimal.{decimal}
 use Rattle.text.specs.Numbers.{ending, row, Row, Begins}
 use Rattle.text.proofs.DecimalLaws.{decimal-some}
-use Rattle.text.proofs.RowLaws.{row-next, row-rest, row-unique}
-use Rattle.sheet.specs.Sheet.{paddedTo}
-use Rattle.card.specs.Card.{IsCard, card?, numbersFound, numbersOn, columnsOn, unreadable, mostColumns, Reads}
+use Rattle.text.proofs.RowLaws.{row-next, row-rest, row-unique, row?}
+use Rattle.bits.specs.Padded.{paddedTo}
+use Rattle.card.specs.Card.{longest, fewest, IsCard, Readable, numbersOn, columnsOn, unreadable, mostColumns, Reads}
 use Rattle.card.specs.declared.Reading.{Reading}
 
 alike : {a a' : Answer} {n n' k k' m m' : ℕ} {C C' : List ℕ} → a ≡ a' → n ≡ n' → k ≡ k' → C ≡ C' → m ≡ m'
@@ -44,39 +47,42 @@ some-number : {b ns : List ℕ} → Row b ns → 1 ≤ length ns → (v : ℕ) �
 some-number {ns = []} r h = absurd (omega arith)
 some-number {ns = x ∷ xs} r h = (x, row xs, row-next r .0)
 
+unfoldable pub card? : (b : List ℕ) → Dec (Readable b)
+unfolding decLe
+card? b = elim (row? b) [
+  | yes (ns, row) ↦ elim (both (decLe (length b) longest) (decLe fewest (length ns))) [
+    | yes (short, enough) ↦ yes (ns, record { short = short; numbers = row; enough = enough })
+    | no not ↦ no (λ (ms, is). not (is .short, subst (λ (l : List ℕ). fewest ≤ length l) (row-unique (is .numbers) row) (is .enough)))
+  ]
+  | no not ↦ no (λ (ns, is). not (ns, is .numbers))
+]
+
 module _ {b : List ℕ} where
-  found-numbers : {ns : List ℕ} (d : Dec ((ms : List ℕ) × IsCard b ms)) → IsCard b ns → numbersFound d ≡ ns
-  found-numbers (yes (ms, is)) h = row-unique (is .numbers) (h .numbers)
-  found-numbers {ns} (no not) h = absurd (not (ns, h))
+  pub is-card : {ns : List ℕ} (d : Dec (Readable b)) → IsCard b ns → numbersOn d ≡ ns
+  is-card (yes (ms, is)) h = row-unique (is .numbers) (h .numbers)
+  is-card {ns} (no not) h = absurd (not (ns, h))
 
-  found-none : (d : Dec ((ns : List ℕ) × IsCard b ns)) → ¬ ((ns : List ℕ) × IsCard b ns) → numbersFound d ≡ []
-  found-none (yes card) not = absurd (not card)
-  found-none (no _) not = refl
+  pub no-card : (d : Dec (Readable b)) → ¬ Readable b → numbersOn d ≡ []
+  no-card (yes card) not = absurd (not card)
+  no-card (no _) not = refl
 
-  found-few : (d : Dec ((ns : List ℕ) × IsCard b ns)) → length (drop 2 (numbersFound d)) ≤ mostColumns
-  found-few (yes (ns, is)) = omega (arith, is .short, ap length (is .numbers .bytes), row-places ns, length-drop 2 ns)
-  found-few (no _) = omega arith
-
-  pub is-card : {ns : List ℕ} → IsCard b ns → numbersOn b ≡ ns
-  is-card = found-numbers (card? b)
-
-  pub no-card : ¬ ((ns : List ℕ) × IsCard b ns) → numbersOn b ≡ []
-  no-card = found-none (card? b)
+  pub columns-few : (d : Dec (Readable b)) → length (columnsOn d) ≤ mostColumns
+  columns-few (yes (ns, is)) = omega (arith, is .short, ap length (is .numbers .bytes), row-places ns, length-drop 2 ns)
+  columns-few (no _) = omega arith
 
   pub reads-card : {n k count : ℕ} {C columns : List ℕ} → IsCard b (n ∷ k ∷ C) → columns ≡ paddedTo mostColumns C → count ≡ length C
       → Reads b (record { answer = Done; n = n; k = k; columns = columns; count = count })
-  reads-card {n} {k} {C = C} is same many = let e = is-card is in record {
-    answer = sym (first-skip (unreadable b) [] (λ not. not (n ∷ k ∷ C, is)) ∙ first-nil);
+  reads-card {n} {k} {C = C} is same many d = let e = is-card d is in record {
+    answer = sym (first-skip (unreadable d) [] (λ not. not (n ∷ k ∷ C, is)) ∙ first-nil);
     n = rw e refl;
     k = rw e refl;
     columns = rw e same;
     count = rw e many;
   }
 
-  pub reads-none : ¬ ((ns : List ℕ) × IsCard b ns)
-      → Reads b (record { answer = Refused Card; n = 0; k = 0; columns = paddedTo mostColumns []; count = 0 })
-  reads-none not = let e = no-card not in record {
-    answer = sym (first-take (unreadable b) [] not);
+  pub reads-none : ¬ Readable b → Reads b (record { answer = Refused Card; n = 0; k = 0; columns = paddedTo mostColumns []; count = 0 })
+  reads-none not d = let e = no-card d not in record {
+    answer = sym (first-take (unreadable d) [] not);
     n = rw e refl;
     k = rw e refl;
     columns = rw e refl;
@@ -84,21 +90,20 @@ module _ {b : List ℕ} where
   }
 
   pub reads-unique : {r q : Reading} → Reads b r → Reads b q → r ≡ q
-  reads-unique {r} {q} s t =
+  reads-unique {r} {q} reads also =
+      let s = reads (card? b) in
+      let t = also (card? b) in
       alike (said-same (r .answer) (q .answer) (s .answer ∙ sym (t .answer))) (s .n ∙ sym (t .n)) (s .k ∙ sym (t .k)) (s .columns ∙ sym (t .columns))
       (s .count ∙ sym (t .count))
 
   pub card-first : {ns : List ℕ} → IsCard b ns → (v : ℕ) × (rest : List ℕ) × Begins b v rest
-  card-first is = some-number (is .numbers) (omega (arith, is .two))
+  card-first is = some-number (is .numbers) (omega (arith, is .enough))
 
   pub card-second : {ns rest : List ℕ} {n : ℕ} → Begins b n rest → IsCard b ns → (v : ℕ) × (after : List ℕ) × Begins rest v after
-  card-second g is = let (xs, r, e) = row-rest g (is .numbers) in some-number r (omega (arith, is .two, ap length e))
+  card-second g is = let (xs, r, e) = row-rest g (is .numbers) in some-number r (omega (arith, is .enough, ap length e))
 
   pub card-others : {ns rest after : List ℕ} {n k : ℕ} → Begins b n rest → Begins rest k after → IsCard b ns → (C : List ℕ) × Row after C
   card-others g f is =
       let (xs, r, _) = row-rest g (is .numbers) in
       let (C, s, _) = row-rest f r in
       (C, s)
-
-pub columns-few : (b : List ℕ) → length (columnsOn b) ≤ mostColumns
-columns-few b = found-few (card? b)

@@ -1,9 +1,3 @@
--- Laws of cards and of texts.
+-- Laws of cards, and cases that are computed.
 pub mod CardLaws
-pub mod WriteLaws
-pub mod LineLaws
-pub mod RoomLaws
-pub mod TrialLaws
-pub mod ListLaws
-pub mod ToolLaws
 pub mod Cases

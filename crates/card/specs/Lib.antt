@@ -1,5 +1,3 @@
--- The order card, and the text of a listing.
+-- The order card.
 pub mod Card
-pub mod Listing
-pub mod Tool
 pub mod Inside

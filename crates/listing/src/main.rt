@@ -2,7 +2,7 @@
 fn main() {
     let mut bytes = [0; card::LONGEST + 1];
     let length = io::read_full(0, &mut bytes);
-    let mut text = [0; card::ROOM];
-    let end = card::print(&bytes[..length], &mut text);
+    let mut text = [0; list::ROOM];
+    let end = list::print(&bytes[..length], &mut text);
     io::write_all(1, &text[..end]);
 }

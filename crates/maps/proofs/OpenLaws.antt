@@ -28,7 +28,8 @@ use Rattle.bits.proofs.ImageLaws.{same-image}
 use Rattle.sheet.specs.Sheet.{Stage, Side, stagesIn, stagesFrom, flat}
 use Rattle.sheet.specs.Table.{sheetTable}
 use Rattle.sheet.proofs.StageLaws.{same-stages}
-use Rattle.sheet.proofs.LayLaws.{padded-length, padded-at, flat-length, flat-stages}
+use Rattle.bits.proofs.PaddedLaws.{padded-length, padded-at}
+use Rattle.sheet.proofs.LayLaws.{flat-length, flat-stages}
 use Rattle.switches.specs.Stages.{afterStages}
 use Rattle.switches.specs.Cells.{cellAt}
 use Rattle.maps.specs.Opened.{openWidth, openStages, padded, closed, unopened, Shows, Opens, IsAddress, IsBank, IsCell, ListsCells}

@@ -28,7 +28,8 @@ use Rattle.kinds.specs.declared.Answer.{Answer}
 use Rattle.kinds.specs.declared.Answer.the-variants.{Done, Refused}
 use Rattle.kinds.specs.declared.Refusal.{Refusal}
 use Rattle.bits.specs.Image.{AllBelow}
-use Rattle.sheet.specs.Sheet.{Side, writeSide, readSide, paddedTo, flat}
+use Rattle.sheet.specs.Sheet.{Side, writeSide, readSide, flat}
+use Rattle.bits.specs.Padded.{paddedTo}
 use Rattle.sheet.specs.Layout.{InRange}
 use Rattle.sheet.specs.Table.{sheetTable}
 use Rattle.switches.specs.Cells.{addressAt, bankAt, cellAt, cellColumns}

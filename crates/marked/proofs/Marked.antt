@@ -21,7 +21,8 @@ use Rattle.switches.specs.Stages.{afterStages}
 use Rattle.switches.specs.Written.{keptStages}
 use Rattle.faults.specs.Marks.{put}
 use Rattle.promise.specs.Series.{standing}
-use Rattle.plan.specs.Planned.{othersOfP1, portsToZero, keptOfP3, pairs, readStages}
+use Rattle.plan.specs.Planned.{othersOfP1, portsToZero, keptOfP3, readStages}
+use Rattle.lay.specs.Staged.{pairs}
 use Rattle.marked.specs.Cases.{Each, marked}
 
 pub marked-cases : Each marked

@@ -16,7 +16,8 @@ use Rattle.sheet.proofs.Cases.{reversal}
 use Rattle.switches.specs.Stages.{afterStages}
 use Rattle.switches.specs.Written.{keptStages}
 use Rattle.promise.proofs.Cases.{gray, identity, turning, one-tick}
-use Rattle.plan.specs.Planned.{othersOfP1, portsToZero, keptOfP3, pairs, readStages, plannedSheet}
+use Rattle.plan.specs.Planned.{othersOfP1, portsToZero, keptOfP3, readStages, plannedSheet}
+use Rattle.lay.specs.Staged.{pairs}
 
 computed : Unit {0}
 unfolding image columns ℕ-discrete sumOf? someBelow those keptAt others mask masks inOrder dots rows dot parity ones afterStages keptStages othersOfP1 portsToZero keptOfP3 pairs readStages

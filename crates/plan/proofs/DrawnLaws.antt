@@ -19,7 +19,8 @@ use Rattle.span.proofs.ScanLaws.{map-at}
 use Rattle.order.specs.Order.{place, Order}
 use Rattle.sheet.specs.Sheet.{Stage, flat}
 use Rattle.sheet.specs.Layout.{InRange}
-use Rattle.sheet.proofs.LayLaws.{padded-at, padded-length, flat-from}
+use Rattle.bits.proofs.PaddedLaws.{padded-at, padded-length}
+use Rattle.sheet.proofs.LayLaws.{flat-from}
 use Rattle.switches.specs.Stages.{afterStages}
 use Rattle.switches.specs.Cells.{portToBank, tickToBank}
 use Rattle.switches.proofs.CellLaws.{address-of-cell, bank-of-cell}

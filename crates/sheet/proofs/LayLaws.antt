@@ -17,7 +17,8 @@ use lib.Seq.{take-suc, take-all, take-at, drop-at, drop-drop, getD-at, getD-drop
 use Rattle.kinds.specs.Edition.{Edition, Sized, sidePlaces, sheetPlaces}
 use Rattle.bits.proofs.ImageLaws.{zeros-at}
 pub use Rattle.bits.proofs.PaddedLaws.{padded-length, padded-at, padded-unique, padded-whole, padded-part, padded-snoc}
-use Rattle.sheet.specs.Sheet.{Stage, Side, addressPlaces, wiringPlaces, countPlace, stagePlaces, stageAt, stagesIn, stagesFrom, sideOf, writePlaces, readPlaces, writeSide, readSide, paddedTo, flat, laidOut, sheetOf}
+use Rattle.sheet.specs.Sheet.{Stage, Side, addressPlaces, wiringPlaces, countPlace, stagePlaces, stageAt, stagesIn, stagesFrom, sideOf, writePlaces, readPlaces, writeSide, readSide, flat, laidOut, sheetOf}
+use Rattle.bits.specs.Padded.{paddedTo}
 use Rattle.sheet.specs.Layout.{AllZero, FormedSide, WellFormed, Layable}
 use Rattle.sheet.proofs.StageLaws.{same-stages}
 use Rattle.sheet.proofs.PlaceLaws.{take-same}

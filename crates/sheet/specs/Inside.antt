@@ -1,7 +1,6 @@
 -- What the functions inside the crate promise one another.
 --   Whole e n k l     n and k are within the sizes, and l is all places of a side
---   Room m l          l has places for m stages
-use Prim.Native.Nat.{ℕ, _*_, _≤_}
+use Prim.Native.Nat.{ℕ}
 use mathlib.Core.Path.{_≡_}
 use mathlib.Core.List.{List}
 use lib.ListN.{length}
@@ -10,6 +9,3 @@ use Rattle.kinds.specs.Edition.{Edition, Sized, sidePlaces}
 pub record Whole (e : Edition) (n k : ℕ) (l : List ℕ) : Type 0 where
   pub sized : Sized e n k
   pub places : length l ≡ sidePlaces e
-
-abbrev pub Room : ℕ → List ℕ → Type 0
-Room m l = 2 * m ≤ length l

@@ -1,6 +1,7 @@
 -- Numbers in decimal.
 --   decimal-small     a number below 10 is its digit
 --   decimal-more      any other is the number without its last digit, and that digit
+--   decimal-longer    which makes it one digit longer
 --   decimal-some      a number has a digit
 --   decimal-length    and one below 10^m has at most m
 use Prim.Native.Nat.{ℕ, zero, suc, _+_, _/_, _%_, _^_, _<_, _≤_}
@@ -39,14 +40,13 @@ pub decimal-more : (x : ℕ) → 10 ≤ x → decimal x ≡ decimal (x / 10) ++ 
 decimal-more x h =
     in-more x x h ∙ ap (λ (ds : List ℕ). ds ++ (digit (x % 10) ∷ [])) (in-enough x (suc (x / 10)) (x / 10) (omega arith) (omega arith))
 
--- one digit more
-longer : (x : ℕ) → 10 ≤ x → length (decimal x) ≡ length (decimal (x / 10)) + 1
-longer x h = ap length (decimal-more x h) ∙ length-append (decimal (x / 10)) (digit (x % 10) ∷ [])
+pub decimal-longer : (x : ℕ) → 10 ≤ x → length (decimal x) ≡ length (decimal (x / 10)) + 1
+decimal-longer x h = ap length (decimal-more x h) ∙ length-append (decimal (x / 10)) (digit (x % 10) ∷ [])
 
 pub decimal-some : (x : ℕ) → 1 ≤ length (decimal x)
 decimal-some x = elim (decLt x 10) [
   | yes small ↦ omega (arith, ap length (decimal-small x small))
-  | no more ↦ omega (arith, longer x (omega arith))
+  | no more ↦ omega (arith, decimal-longer x (omega arith))
 ]
 
 pub decimal-length : (m x : ℕ) → 1 ≤ m → x < 10 ^ m → length (decimal x) ≤ m
@@ -54,5 +54,5 @@ decimal-length zero x some h = absurd (omega arith)
 decimal-length (suc zero) x some h = omega (arith, ap length (decimal-small x h))
 decimal-length (suc (suc m)) x some h = elim (decLt x 10) [
   | yes small ↦ omega (arith, ap length (decimal-small x small))
-  | no more ↦ omega (arith, longer x (omega arith), decimal-length (suc m) (x / 10) (omega arith) (omega arith))
+  | no more ↦ omega (arith, decimal-longer x (omega arith), decimal-length (suc m) (x / 10) (omega arith) (omega arith))
 ]

@@ -1,3 +1,4 @@
 -- Numbers as text.
 pub mod Decimal
+pub mod Number
 pub mod Numbers

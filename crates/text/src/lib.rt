@@ -1,8 +1,15 @@
-// Numbers on an order card, read one after the other.
+// Decimal numbers in bytes, and those of an order card, read one after the other.
 ghost use mathlib.Core.Path.{_≡_};
 ghost use lib.ListN.{drop};
+ghost use Rattle.text.specs.Number.{NumberIs};
 ghost use Rattle.text.specs.Numbers.{ending as endingOf, NextIs};
 use kinds::Refusal;
+
+// A number with the place after its digits, or the first byte from which no number could go on.
+pub enum Numeral {
+    Value(u16, usize),
+    Bad(usize),
+}
 
 // "The next thing on the card is either a number or a refusal" (01): a number comes with the place after the byte that ends it.
 pub enum Thing {
@@ -10,38 +17,50 @@ pub enum Thing {
     Refused(Refusal),
 }
 
-// The number that starts at this place of the card. A space ends it, and at the card's end the newline. 15.
-pub fn next(card: &[u8], at: usize) -> Thing
-    ensures { λ r. ⌜ NextIs (now (card .entry)) at r ⌝ }
+// The number whose digits start at this place of the bytes: all the digits that stand there.
+pub fn number(bytes: &[u8], at: usize) -> Numeral
+    ensures { λ r. ⌜ NumberIs (now (bytes .entry)) at r ⌝ }
 {
     let mut value: u32 = 0;
     let mut place = at;
-    while place < card.len() {
-        let byte = card[place];
-        let after = place + 1;
-        if byte == ending(card, after) {
-            if place == at {
-                return Thing::Refused(Refusal::Card);
-            }
-            let number = value as u16;
-            return Thing::Number(number, after);
-        }
+    while place < bytes.len() {
+        let byte = bytes[place];
         if byte < b'0' {
-            return Thing::Refused(Refusal::Card);
+            break;
         }
         if b'9' < byte {
-            return Thing::Refused(Refusal::Card);
+            break;
         }
         if value == 0 {
             if place != at {
-                return Thing::Refused(Refusal::Card);
+                return Numeral::Bad(place);
             }
         }
         value = 10 * value + (byte - b'0') as u32;
         if 65535 < value {
-            return Thing::Refused(Refusal::Card);
+            return Numeral::Bad(place);
         }
-        place = after;
+        place += 1;
+    }
+    if place == at {
+        return Numeral::Bad(at);
+    }
+    Numeral::Value(value as u16, place)
+}
+
+// The number that starts at this place of the card. A space ends it, and at the card's end the newline. 15.
+pub fn next(card: &[u8], at: usize) -> Thing
+    ensures { λ r. ⌜ NextIs (now (card .entry)) at r ⌝ }
+{
+    let read = number(card, at);
+    let Numeral::Value(value, end) = read else {
+        return Thing::Refused(Refusal::Card);
+    };
+    if end < card.len() {
+        let after = end + 1;
+        if card[end] == ending(card, after) {
+            return Thing::Number(value, after);
+        }
     }
     Thing::Refused(Refusal::Card)
 }

@@ -1,12 +1,13 @@
 -- `card::read` meets its contract.
-use Prim.Native.Nat.{ℕ}
+use Prim.Native.Nat.{ℕ, _<_, _≤_}
 use mathlib.Core.List.{List}
 use borrow.Author.Needs.{needs}
 use borrow.Author.Tests.{not-true, not-false}
 use native.Mathlib.Omega.{arith}
-use Rattle.text.specs.Numbers.{NextIs}
-use Rattle.text.specs.declared.Thing.the-variants.{Number}
+use lib.ListN.{length, drop}
+use Rattle.text.specs.Numbers.{Begins}
 use Rattle.text.proofs.RowLaws.{row-step}
+use Rattle.text.proofs.ToolLaws.{next-number, next-none}
 use Rattle.card.proofs.CardLaws.{two-places, card-first, card-second, card-others, reads-card}
 use Rattle.card.proofs.read.Statement.{statement}
 use Rattle.card.proofs.read.Tie as tie
@@ -22,8 +23,8 @@ module _ (c : tie.After-known-told) where
   abbrev after-n : ℕ
   after-n = c .before .first .given .0 .1 .0
 
-  first : NextIs card 0 (Number n after-n)
-  first = rw (c .before .first .given .1) at (c .before .before .before .next .ensures)
+  first : (0 < after-n) × (after-n ≤ length card) × Begins (drop 0 card) n (drop after-n card)
+  first = next-number (rw (c .before .first .given .1) at (c .before .before .before .next .ensures))
 
 -- and k
 module _ (c : tie.After-known-told2) where
@@ -36,8 +37,8 @@ module _ (c : tie.After-known-told2) where
   abbrev after-k : ℕ
   after-k = c .before .second .given .0 .1 .0
 
-  second : NextIs (card earlier) (after-n earlier) (Number k after-k)
-  second = rw (c .before .second .given .1) at (c .before .before .before .next2 .ensures)
+  second : (after-n earlier < after-k) × (after-k ≤ length (card earlier)) × Begins (drop (after-n earlier) (card earlier)) k (drop after-k (card earlier))
+  second = next-number (rw (c .before .second .given .1) at (c .before .before .before .next2 .ensures))
 
 unreadable-requires : tie.Need-unreadable-requires
 unreadable-requires c κs = search needs
@@ -59,8 +60,8 @@ unreadable-requires-2 c κs = search needs
 
 returns-2 : tie.Need-returns-2
 returns-2 c =
-    let none = rw (c .before .enum-told .given .1) at (c .before .before .before .next .ensures) in
-    c .unreadable2 .ensures _ (λ (ns, is). let (v, rest, g) = card-first is in none .1 v rest g)
+    let not = next-none (rw (c .before .enum-told .given .1) at (c .before .before .before .next .ensures)) in
+    c .unreadable2 .ensures _ (λ (ns, is). let (v, rest, g) = card-first is in not v rest g)
 
 next-requires-2 : tie.Need-next-requires-2
 next-requires-2 c κs = search needs
@@ -76,8 +77,8 @@ unreadable-requires-3 c κs = search needs
 
 returns-3 : tie.Need-returns-3
 returns-3 c =
-    let none = rw (c .before .enum-told2 .given .1) at (c .before .before .before .next2 .ensures) in
-    c .unreadable3 .ensures _ (λ (ns, is). let (v, rest, g) = card-second (first (c .before .before .before .before) .2) is in none .1 v rest g)
+    let not = next-none (rw (c .before .enum-told2 .given .1) at (c .before .before .before .next2 .ensures)) in
+    c .unreadable3 .ensures _ (λ (ns, is). let (v, rest, g) = card-second (first (c .before .before .before .before) .2) is in not v rest g)
 
 read-columns-requires : tie.Need-read-columns-requires
 read-columns-requires c κs =
@@ -106,7 +107,7 @@ returns-5 : tie.Need-returns-5
 returns-5 c =
     let at = c .before .before .before .before in
     let (C, r, same, many) = c .before .before .before .read-columns .ensures .read (not-false _ (c .before .if2 .left)) in
-    reads-card (record { short = omega arith; numbers = row-step (first (earlier at) .2) (row-step (second at .2) r); two = omega arith }) same many
+    reads-card (record { short = omega arith; numbers = row-step (first (earlier at) .2) (row-step (second at .2) r); enough = omega arith }) same many
 
 pub read-spec : {M : Type 1} → statement M
 read-spec =

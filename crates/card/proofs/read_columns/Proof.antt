@@ -7,11 +7,11 @@ use native.Mathlib.Omega.{arith}
 use lib.ListN.{length, set, drop, length-append, drop-of-length-le}
 use lib.Seq.{drop-cons, append-snoc}
 use Rattle.kinds.proofs.TruthLaws.{false≢true}
-use Rattle.text.specs.Numbers.{Row, Begins, NextIs}
-use Rattle.text.specs.declared.Thing.the-variants.{Number}
+use Rattle.text.specs.Numbers.{Row, Begins}
 use Rattle.text.proofs.RowLaws.{row-step, row-none, row-rest, row-begins}
-use Rattle.sheet.specs.Sheet.{paddedTo}
-use Rattle.sheet.proofs.LayLaws.{padded-snoc}
+use Rattle.text.proofs.ToolLaws.{next-number, next-none}
+use Rattle.bits.specs.Padded.{paddedTo}
+use Rattle.bits.proofs.PaddedLaws.{padded-snoc}
 use Rattle.card.specs.Card.{longest, mostColumns}
 use Rattle.card.specs.Inside.{Further}
 use Rattle.card.proofs.CardLaws.{two-places}
@@ -75,10 +75,18 @@ abbrev μ-loop : tie.MeasureT-loop
 μ-loop card at numbers₀ count₀ place₀ numbers count place = length card - place
 
 -- the number that was read
-next-is : (c : tie.After-known-told Inv-loop μ-loop)
-    → NextIs (c .before .before .before .before .before .before .before .args .card .now) (c .before .before .before .before .before .loop .place)
-    (Number (c .before .thing .given .0 .0) (c .before .thing .given .0 .1 .0))
-next-is c = rw (c .before .thing .given .1) at (c .before .before .before .next .ensures)
+module _ (c : tie.After-known-told Inv-loop μ-loop) where
+  abbrev card : List ℕ
+  card = c .before .before .before .before .before .before .before .args .card .now
+
+  abbrev from : ℕ
+  from = c .before .before .before .before .before .loop .place
+
+  abbrev after : ℕ
+  after = c .before .thing .given .0 .1 .0
+
+  next-is : (from < after) × (after ≤ length card) × Begins (drop from card) (c .before .thing .given .0 .0) (drop after card)
+  next-is = next-number (rw (c .before .thing .given .1) at (c .before .before .before .next .ensures))
 
 loop-holds : tie.Need-loop-holds Inv-loop μ-loop
 loop-holds c = start (c .before .pre)
@@ -95,7 +103,7 @@ enum-told c = search needs
 returns : tie.Need-returns Inv-loop μ-loop
 returns c = record {
   read = λ e. false≢true e;
-  unread = λ _. stop (c .before .before .before .before .loop .inv) (c .before .before .before .loop-test .taken) (rw (c .enum-told .given .1) at (c .before .before .next .ensures) .1);
+  unread = λ _. stop (c .before .before .before .before .loop .inv) (c .before .before .before .loop-test .taken) (next-none (rw (c .enum-told .given .1) at (c .before .before .next .ensures)));
 }
 
 mul-numbers : tie.Need-mul-numbers Inv-loop μ-loop

@@ -18,7 +18,7 @@ use Rattle.bits.proofs.ImageLaws.{columns-length}
 use Rattle.span.specs.Sums.{Independent}
 use Rattle.order.specs.Order.{place}
 use Rattle.sheet.specs.Sheet.{Side, writeSide, readSide}
-use Rattle.sheet.proofs.LayLaws.{padded-at, padded-part}
+use Rattle.bits.proofs.PaddedLaws.{padded-at, padded-part}
 use Rattle.switches.specs.Cells.{M, N, cellColumns}
 use Rattle.maps.specs.Opened.{openWidth, padded, Shows}
 use Rattle.promise.specs.Passes.{Invertible, ShareCell, Differ, shareCell?, differ?, passTable}

@@ -1,4 +1,4 @@
--- `listing::main` ends, and prints what `card::print` wrote.
+-- `listing::main` ends, and prints what `list::print` wrote.
 use Prim.Native.Nat.{ℕ, _≤_}
 use mathlib.Core.Path.{ap, sym}
 use mathlib.Core.List.{List}
@@ -7,12 +7,16 @@ use borrow.Author.Needs.{needs}
 use lib.ListN.{length, drop, length-append}
 use lib.Seq.{length-take-le}
 use Rattle.kinds.specs.Edition.{edition1}
-use Rattle.card.specs.Tool.{printed, Prints}
+use Rattle.card.proofs.CardLaws.{card?}
+use Rattle.list.specs.Tool.{printed, Prints}
 use Rattle.listing.proofs.main.Statement.{statement}
 use Rattle.listing.proofs.main.Tie as tie
 
 within : {b t t' : List ℕ} {r : ℕ} → Prints edition1 b t t' r → r ≤ length t'
-within {b} {t} prints = let p = printed edition1 b in omega (arith, prints .length-of, ap length (prints .text), length-append p (drop (length p) t))
+within {b} {t} prints =
+    let d = card? b in
+    let p = printed edition1 d in
+    omega (arith, prints d .length-of, ap length (prints d .text), length-append p (drop (length p) t))
 
 slice-aggregate-read-full : tie.Need-slice-aggregate-read-full
 slice-aggregate-read-full c = search needs

@@ -4,7 +4,7 @@ use mathlib.Core.Path.{_≡_, sym, _∙_}
 use native.Mathlib.Omega.{arith}
 use borrow.Author.Needs.{needs}
 use lib.ListN.{length}
-use Rattle.sheet.proofs.LayLaws.{padded-length, padded-at}
+use Rattle.bits.proofs.PaddedLaws.{padded-length, padded-at}
 use Rattle.bits.proofs.FillLaws.{Filled, fill-none, fill-more, fill-whole}
 use Rattle.maps.specs.Opened.{openWidth, padded}
 use Rattle.maps.proofs.padded.Statement.{statement}

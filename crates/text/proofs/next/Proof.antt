@@ -1,149 +1,101 @@
--- `text::next` meets its contract. The invariant: what is read at `at` is read on from `place`, after the digits between the two, which make `value`.
-use Prim.Native.Nat.{ℕ, _+_, _-_, _≤_, _<_}
+-- `text::next` meets its contract. The digits are there or not, and the byte after them ends the number or doesn't.
+use Prim.Native.Nat.{ℕ, _+_, _≤_, _<_}
 use mathlib.Core.Path.{_≡_, refl, sym, ap, _∙_}
 use mathlib.Core.List.{List, _∷_}
-use mathlib.Core.Logic.{⊎-elim}
-use mathlib.Core.Option.{none, Option·none-ne-some}
+use mathlib.Core.Option.{Option·none-ne-some, Option·some-injective}
 use borrow.Author.Needs.{needs}
 use native.Mathlib.Numerals.{add-one}
 use native.Mathlib.Omega.{arith}
 use lib.ListN.{length, getD, drop, drop-of-length-le}
 use lib.Seq.{drop-cons}
 use Rattle.kinds.specs.declared.Refusal.the-variants.{Card}
-use Rattle.text.specs.Numbers.{most, ending, NextIs}
+use Rattle.text.specs.Number.{NumberIs}
+use Rattle.text.specs.Numbers.{ending, Begins, NextIs}
+use Rattle.text.specs.declared.Numeral.the-variants.{Value, Bad}
 use Rattle.text.specs.declared.Thing.the-variants.{Number, Refused}
-use Rattle.text.proofs.ReadLaws.{Ends, more, GoesOn, readOn, ending-low, read-nil, read-end, read-more, read-stop, read-sound, read-complete}
+use Rattle.text.proofs.ReadLaws.{digits-unique, begins-digits, digits-begin}
 use Rattle.text.proofs.next.Statement.{statement}
 use Rattle.text.proofs.next.Tie as tie
 
-record Reads (card : List ℕ) (at value place : ℕ) : Type 0 where
-  begun : at ≤ place
-  small : value ≤ most
-  same : readOn 0 0 (drop at card) ≡ readOn (place - at) value (drop place card)
+module _ (b : List ℕ) (at : ℕ) where
+  nothing : ((v : ℕ) (rest : List ℕ) → ¬ Begins (drop at b) v rest) → NextIs b at (Refused Card)
+  nothing not = record { number = λ e. absurd (Option·none-ne-some _ (sym e)); refused = λ x e. (sym (Option·some-injective _ _ e), not) }
 
-start : {card : List ℕ} {at : ℕ} → Reads card at 0 at
-start {card} {at} = record { begun = omega arith; small = omega arith; same = ap (λ (seen : ℕ). readOn seen 0 (drop at card)) (omega arith) }
+  bad : {e : ℕ} → NumberIs b at (Bad e) → NextIs b at (Refused Card)
+  bad (_, _, stops) = nothing (λ v rest g. stops .not v (ending rest ∷ rest) (begins-digits g))
 
-nothing : (card : List ℕ) (at : ℕ) → readOn 0 0 (drop at card) ≡ none → NextIs card at (Refused Card)
-nothing card at e = (refl, λ v rest b. Option·none-ne-some _ (sym e ∙ read-complete b))
+  module _ (v e : ℕ) (read : NumberIs b at (Value v e)) where
+    past : length b ≤ e → NextIs b at (Refused Card)
+    past h =
+        nothing (λ w rest g. omega (arith, ap length (digits-unique (begins-digits g) (read .2) .1), ap length (drop-of-length-le b {i = e} h)))
 
-done : {card : List ℕ} {at value place : ℕ} → Reads card at value place → length card ≤ place → NextIs card at (Refused Card)
-done {card} {at} {value} {place} r h =
-    nothing card at (r .same ∙ ap (readOn (place - at) value) (drop-of-length-le card h) ∙ read-nil (place - at) value)
+    module _ (h : e < length b) where
+      here : drop e b ≡ getD b e 0 ∷ drop (e + 1) b
+      here = rw (add-one, drop-cons b e 0 h)
 
-module _ {card : List ℕ} {at value place : ℕ} (r : Reads card at value place) (h : place < length card) where
-  abbrev byte : ℕ
-  byte = getD card place 0
+      ended : getD b e 0 ≡ ending (drop (e + 1) b) → NextIs b at (Number v (e + 1))
+      ended same = record {
+        number = λ _. (v, e + 1, refl, omega (arith, read .0), omega arith, digits-begin (read .2) (here ∙ ap (λ (c : ℕ). c ∷ drop (e + 1) b) same));
+        refused = λ x no. absurd (Option·none-ne-some _ no);
+      }
 
-  abbrev rest : List ℕ
-  rest = drop (place + 1) card
+      other : ¬ (getD b e 0 ≡ ending (drop (e + 1) b)) → NextIs b at (Refused Card)
+      other not =
+          nothing (λ w rest g.
+          let same = sym here ∙ sym (digits-unique (begins-digits g) (read .2) .1) in
+          not (ap (λ (l : List ℕ). getD l 0 0) same ∙ ap ending (sym (ap (drop 1) same))))
 
-  here : readOn 0 0 (drop at card) ≡ readOn (place - at) value (byte ∷ rest)
-  here = r .same ∙ ap (readOn (place - at) value) (rw (add-one, drop-cons card place 0))
+number-requires : tie.Need-number-requires
+number-requires c κs = search needs
 
-  stop : ¬ Ends (place - at) byte rest → ¬ GoesOn (place - at) value byte → NextIs card at (Refused Card)
-  stop e g = nothing card at (here ∙ read-stop (place - at) value byte rest e g)
+enum-known-read : tie.Need-enum-known-read
+enum-known-read c = search needs
 
-  empty : place ≡ at → byte ≡ ending rest → NextIs card at (Refused Card)
-  empty p e = stop (λ w. omega arith) (λ g. omega (arith, ending-low rest))
+enum-told : tie.Need-enum-told
+enum-told c = search needs
 
-  end : {next : ℕ} → next ≡ place + 1 → Ends (place - at) byte rest → NextIs card at (Number value next)
-  end p e = rw p (omega arith, omega arith, read-sound (here ∙ read-end (place - at) value byte rest e))
+returns : tie.Need-returns
+returns c = bad _ _ (rw (c .enum-told .given .1) at (c .before .before .number .ensures))
 
-  again : GoesOn (place - at) value byte → Reads card at (more value byte) (place + 1)
-  again g = record {
-    begun = omega arith;
-    small = omega arith;
-    same = here ∙ read-more (place - at) value byte rest g ∙ ap (λ (seen : ℕ). readOn seen (more value byte) rest) (omega arith);
-  }
+-- the number was read
+module _ (c : tie.After-known-told) where
+  number-is : NumberIs (c .before .before .before .before .before .args .card .now) (c .before .before .before .before .before .args .at)
+      (Value (c .before .read .given .0 .0) (c .before .read .given .0 .1 .0))
+  number-is = rw (c .before .read .given .1) at (c .before .before .before .number .ensures)
 
-abbrev Inv-loop : tie.InvT-loop
-Inv-loop card at value₀ place₀ value place = Reads card at value place
-
-abbrev μ-loop : tie.MeasureT-loop
-μ-loop card at value₀ place₀ value place = length card - place
-
-loop-holds : tie.Need-loop-holds Inv-loop μ-loop
-loop-holds c = start
-
-shared-slice-read-byte : tie.Need-shared-slice-read-byte Inv-loop μ-loop
-shared-slice-read-byte c = search needs
-
-add-after : tie.Need-add-after Inv-loop μ-loop
+add-after : tie.Need-add-after
 add-after c = search needs
 
-ending-requires : tie.Need-ending-requires Inv-loop μ-loop
+shared-slice-read-if2 : tie.Need-shared-slice-read-if2
+shared-slice-read-if2 c = search needs
+
+ending-requires : tie.Need-ending-requires
 ending-requires c κs = search needs
 
-returns : tie.Need-returns Inv-loop μ-loop
-returns c =
-    empty (c .before .before .before .before .before .loop .inv) (c .before .before .before .before .loop-test .taken) (omega arith) (omega arith)
+returns-2 : tie.Need-returns-2
+returns-2 c =
+    let made = c .before .before .before .before in
+    ended _ _ _ _ (number-is made) (omega (arith, c .before .before .before .if1 .taken)) (omega (arith, c .if2 .taken, c .before .ending .ensures))
 
-cast-number : tie.Need-cast-number Inv-loop μ-loop
-cast-number c = omega arith
-
-returns-2 : tie.Need-returns-2 Inv-loop μ-loop
-returns-2 c = end (c .before .before .before .before .before .loop .inv) (c .before .before .before .before .loop-test .taken) (omega arith) (omega arith)
-
-returns-3 : tie.Need-returns-3 Inv-loop μ-loop
+returns-3 : tie.Need-returns-3
 returns-3 c =
-    stop (c .before .before .before .before .before .loop .inv) (c .before .before .before .before .loop-test .taken) (λ e. omega arith) (λ g. omega arith)
+    let made = c .before .before .before .before in
+    other _ _ _ _ (number-is made) (c .before .before .before .if1 .taken) (λ e. c .if2 .left (e ∙ sym (c .before .ending .ensures)))
 
-returns-4 : tie.Need-returns-4 Inv-loop μ-loop
-returns-4 c =
-    stop (c .before .before .before .before .before .before .loop .inv) (c .before .before .before .before .before .loop-test .taken)
-    (λ e. omega arith) (λ g. omega arith)
-
-returns-5 : tie.Need-returns-5 Inv-loop μ-loop
-returns-5 c =
-    stop (c .before .before .before .before .before .before .before .before .loop .inv) (c .before .before .before .before .before .before .before .loop-test .taken)
-    (λ e. omega arith) (λ g. omega arith)
-
-mul-value : tie.Need-mul-value Inv-loop μ-loop
-mul-value c = search needs
-
-cast-value : tie.Need-cast-value Inv-loop μ-loop
-cast-value c = search needs
-
-add-value : tie.Need-add-value Inv-loop μ-loop
-add-value c = search needs
-
-returns-6 : tie.Need-returns-6 Inv-loop μ-loop
-returns-6 c =
-    stop (c .before .before .before .before .before .before .before .before .loop .inv) (c .before .before .before .before .before .before .before .loop-test .taken)
-    (λ e. omega arith) (λ g. omega arith)
-
-loop-less : tie.Need-loop-less Inv-loop μ-loop
-loop-less c = omega arith
-
-loop-again : tie.Need-loop-again Inv-loop μ-loop
-loop-again c =
-    again (c .before .before .before .before .before .before .before .before .loop .inv) (c .before .before .before .before .before .before .before .loop-test .taken)
-    (⊎-elim (λ w. omega arith) (λ w. omega arith) (c .before .if5 .came))
-
-returns-7 : tie.Need-returns-7 Inv-loop μ-loop
-returns-7 c = done (c .before .loop .inv) (c .loop-test .left)
+returns-4 : tie.Need-returns-4
+returns-4 c = past _ _ _ _ (number-is (c .before)) (c .if1 .left)
 
 pub next-spec : {M : Type 1} → statement M
 next-spec =
     tie.close
     (tie.spec
-    Inv-loop
-    μ-loop
-    loop-holds
-    shared-slice-read-byte
-    add-after
-    ending-requires
+    number-requires
+    enum-known-read
+    enum-told
     returns
-    cast-number
+    add-after
+    shared-slice-read-if2
+    ending-requires
     returns-2
     returns-3
-    returns-4
-    returns-5
-    mul-value
-    cast-value
-    add-value
-    returns-6
-    loop-less
-    loop-again
-    returns-7)
+    returns-4)

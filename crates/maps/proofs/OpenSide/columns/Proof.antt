@@ -8,7 +8,7 @@ use borrow.Author.Needs.{needs}
 use lib.ListN.{length, getD, set, replicate, List·getD-eq-default}
 use Rattle.bits.proofs.ImageLaws.{columns-length, columns-at}
 use Rattle.sheet.specs.Sheet.{Side}
-use Rattle.sheet.proofs.LayLaws.{padded-length, padded-at}
+use Rattle.bits.proofs.PaddedLaws.{padded-length, padded-at}
 use Rattle.bits.proofs.FillLaws.{Filled, fill-none, fill-more, fill-whole}
 use Rattle.switches.specs.Cells.{cellOf, cellColumns}
 use Rattle.maps.specs.Opened.{openWidth, padded, Shows, AreColumns}

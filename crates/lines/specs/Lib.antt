@@ -1,0 +1,3 @@
+-- Lines of text, and how they are written.
+pub mod Line
+pub mod Written

@@ -14,13 +14,12 @@ use mathlib.Core.Path.{_≡_}
 use mathlib.Core.List.{List, [], _∷_}
 use mathlib.Core.Option.{Option, none, some}
 use lib.ListN.{length}
-use Rattle.kinds.specs.Answers.{Answers}
+use Rattle.kinds.specs.Answers.{Answers, onto}
 use Rattle.kinds.specs.Edition.{Edition}
 use Rattle.kinds.specs.First.{firstOf}
 use Rattle.kinds.specs.Refusal.{said}
 use Rattle.kinds.specs.declared.Answer.{Answer}
 use Rattle.kinds.specs.declared.Refusal.{Refusal}
-use Rattle.run.specs.Memory.{onto}
 use Rattle.card.specs.Card.{Readable, nOn, kOn, columnsOn, cardTable}
 use Rattle.list.specs.Listing.{listing, refusalLine}
 

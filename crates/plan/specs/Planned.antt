@@ -31,7 +31,7 @@ use Rattle.sheet.specs.Layout.{StageInRange, EachStage}
 use Rattle.switches.specs.Stages.{selected}
 use Rattle.switches.specs.Cells.{cellOf}
 use Rattle.switches.specs.Written.{sideFor}
-unfoldable pub use Rattle.lay.specs.Staged.{pairs}
+use Rattle.lay.specs.Staged.{pairs}
 
 abbrev pub StagesInRange : ℕ → ℕ → List Stage → Type 0
 StagesInRange n k ss = EachStage (StageInRange (2 ^ k) (2 ^ tickBits n k)) ss

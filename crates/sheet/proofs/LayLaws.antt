@@ -16,7 +16,7 @@ use lib.ListN.{length, getD, set, take, drop, replicate, length-take, length-app
 use lib.Seq.{take-suc, take-all, take-at, drop-at, drop-drop, getD-at, getD-drop}
 use Rattle.kinds.specs.Edition.{Edition, Sized, sidePlaces, sheetPlaces}
 use Rattle.bits.proofs.ImageLaws.{zeros-at}
-pub use Rattle.bits.proofs.PaddedLaws.{padded-length, padded-at, padded-unique, padded-whole, padded-part, padded-snoc}
+use Rattle.bits.proofs.PaddedLaws.{padded-length, padded-at, padded-unique, padded-snoc}
 use Rattle.sheet.specs.Sheet.{Stage, Side, addressPlaces, wiringPlaces, countPlace, stagePlaces, stageAt, stagesIn, stagesFrom, sideOf, writePlaces, readPlaces, writeSide, readSide, flat, laidOut, sheetOf}
 use Rattle.bits.specs.Padded.{paddedTo}
 use Rattle.sheet.specs.Layout.{AllZero, FormedSide, WellFormed, Layable}

@@ -16,7 +16,7 @@ use Prim.Native.Nat.{ℕ, zero, suc, _+_, _*_, _/_}
 use mathlib.Core.List.{List, [], _∷_, _++_}
 use lib.ListN.{length, take, drop, getD}
 use Rattle.kinds.specs.Edition.{Edition, sidePlaces}
-pub use Rattle.bits.specs.Padded.{paddedTo}
+use Rattle.bits.specs.Padded.{paddedTo}
 
 pub record Stage : Type 0 where
   pub direction : ℕ

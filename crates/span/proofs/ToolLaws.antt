@@ -5,7 +5,7 @@
 --   scans-independent    so does one that says that they are independent
 --   scans-masks          a scan of at most `room` numbers has their masks
 --   scans-unique         two right scans of a list have the same masks, and say the same
-use Prim.Native.Nat.{ℕ, _^_, _≤_, _<_}
+use Prim.Native.Nat.{ℕ, _+_, _^_, _≤_, _<_}
 use mathlib.Core.Path.{_≡_, sym, ap, _∙_}
 use mathlib.Core.Bool.{true}
 use mathlib.Core.List.{List, [], _∷_, _++_}

@@ -12,7 +12,7 @@ use Rattle.kinds.specs.First.{firstOf}
 use Rattle.kinds.specs.Refusal.{said}
 use Rattle.kinds.specs.declared.Refusal.{Refusal}
 use Rattle.text.specs.Decimal.{codes}
-use Rattle.run.specs.Memory.{onto}
+use Rattle.kinds.specs.Answers.{onto}
 use Rattle.card.specs.Card.{Readable, cardTable}
 use Rattle.lines.specs.Line.{line}
 use Rattle.list.specs.Tool.{room, listLengths, textFor}

@@ -14,6 +14,7 @@ use kinds::Addr;
 use kinds::Answer;
 use kinds::Bank;
 use kinds::Refusal;
+use kinds::Tick;
 use lay::Stages;
 
 // Room for the columns of an order, and for their cells.
@@ -129,10 +130,13 @@ fn read_cell(place: u32, k: u32, stages: &[u16]) -> Cell
     ensures { λ r. ⌜ r .bank .0 ≡ bankThrough k (now (stages .entry)) place ⌝ }
 {
     let slot = switches::slot_of(place, k);
-    let address = Addr(slot.tick.0);
-    let wired = Bank(slot.port.0);
-    let bank = switches::after_stages(stages, slot.tick, wired);
-    Cell { address, bank }
+    let tick = slot.tick.0;
+    let port = slot.port.0;
+    let bank = switches::after_stages(stages, Tick(tick), Bank(port));
+    Cell {
+        address: Addr(tick),
+        bank,
+    }
 }
 
 // The cells of some places, each part by itself, and zeros after them.

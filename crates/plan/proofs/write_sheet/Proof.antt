@@ -4,7 +4,7 @@ use mathlib.Core.Path.{_≡_, sym, ap, ap₂, _∙_}
 use mathlib.Core.List.{List, _++_, append-nil}
 use native.Mathlib.Omega.{arith}
 use borrow.Author.Needs.{needs}
-use lib.ListN.{length, take, drop, length-take, length-append, length-drop, drop-of-length-le}
+use lib.ListN.{length, take, drop, length-take, length-drop, drop-of-length-le}
 use lib.Seq.{drop-append-seam}
 use Rattle.plan.proofs.write_sheet.Statement.{statement}
 use Rattle.plan.proofs.write_sheet.Tie as tie
@@ -17,9 +17,6 @@ last-places m s r whole =
     ∙ drop-append-seam (take m s) (r ++ drop (length s - m) (drop m s))
     ∙ ap (λ (l : List ℕ). r ++ l) (drop-of-length-le (drop m s) {i = length s - m} (omega (arith, length-drop m s)))
     ∙ append-nil r
-
-first-places : (m : ℕ) (s r : List ℕ) → length s ≡ m + m → length (take m (take m s ++ r)) ≡ m
-first-places m s r whole = omega (arith, length-take m (take m s ++ r), length-append (take m s) r, length-take m s)
 
 sub-lay-read-side : tie.Need-sub-lay-read-side
 sub-lay-read-side c = search needs
@@ -47,7 +44,7 @@ part-lay-write-side-end c = search needs
 lay-write-side-requires : tie.Need-lay-write-side-requires
 lay-write-side-requires c κs =
     let start = c .before .before .before .before .before .before .before in
-    record { ordered = start .pre .ordered; side = first-places 32 (start .args .sheet .now) _ (start .pre .places) }
+    record { ordered = start .pre .ordered; side = simp (length-take, length-drop) (omega (arith, c .before .before .sheet .given .1, start .pre .places)) }
 
 same-length : tie.Need-same-length
 same-length c = search needs

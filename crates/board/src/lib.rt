@@ -12,7 +12,7 @@ ghost use Rattle.board.specs.Inside.{WrongLength, Three, NamesPorts};
 use call::Ticked;
 use kinds::Answer;
 use kinds::Refusal;
-use sheet::Priced;
+use price::Priced;
 use state::State;
 
 fn number_of(answer: Answer) -> u32

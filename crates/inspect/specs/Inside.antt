@@ -17,7 +17,8 @@ use Rattle.kinds.specs.Refusal.{said}
 use Rattle.kinds.specs.declared.Answer.{Answer}
 use Rattle.sheet.specs.Sheet.{Side, writeSide, readSide}
 use Rattle.switches.specs.Cells.{cellOf}
-use Rattle.maps.specs.Opened.{openWidth, Shows}
+use Rattle.bits.specs.Padded.{arrayWidth}
+use Rattle.maps.specs.Opened.{Shows}
 use Rattle.maps.specs.declared.OpenSide.{OpenSide}
 use Rattle.promise.specs.Passes.{passTable}
 
@@ -28,7 +29,7 @@ abbrev pub Agree : ℕ → ℕ → List ℕ → List ℕ → Side → Type 0
 Agree n k C w R = (j : ℕ) → j < n → AgreeAt k C w R j
 
 pub record Comparable (n k : ℕ) (C w : List ℕ) : Type 0 where
-  pub ports : k ≤ openWidth
+  pub ports : k ≤ arrayWidth
   pub columns : n ≤ length C
   pub cells : n ≤ length w
 
@@ -37,7 +38,7 @@ Agrees n k C w o r = (m : ℕ) (R : Side) → Shows m k o R → Says r (Agree n 
 
 pub record Judgeable (n k : ℕ) (C : List ℕ) : Type 0 where
   pub ports : k ≤ n
-  pub words : n ≤ openWidth
+  pub words : n ≤ arrayWidth
   pub count : length C ≡ n
 
 abbrev pub Judges : ℕ → ℕ → List ℕ → OpenSide → OpenSide → Answer → Type 0

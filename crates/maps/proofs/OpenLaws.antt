@@ -32,7 +32,8 @@ use Rattle.bits.proofs.PaddedLaws.{padded-length, padded-at}
 use Rattle.sheet.proofs.LayLaws.{flat-length, flat-stages}
 use Rattle.switches.specs.Stages.{afterStages}
 use Rattle.switches.specs.Cells.{cellAt}
-use Rattle.maps.specs.Opened.{openWidth, openStages, padded, closed, unopened, Shows, Opens, IsAddress, IsBank, IsCell, ListsCells}
+use Rattle.bits.specs.Padded.{arrayWidth, padded}
+use Rattle.maps.specs.Opened.{openStages, closed, unopened, Shows, Opens, IsAddress, IsBank, IsCell, ListsCells}
 use Rattle.maps.specs.declared.OpenSide.{OpenSide}
 use Rattle.maps.specs.declared.Opened.{Opened}
 use Rattle.switches.proofs.StageLaws.{idle-stages}
@@ -45,27 +46,27 @@ module _ {n k : ℕ} {o : OpenSide} {S : Side} (h : Shows n k o S) where
   shown-k = ap (λ (q : OpenSide). q .k) (h .is)
 
   pub shown-addresses : (j : ℕ) → getD (o .addresses) j 0 ≡ getD (S .addresses) j 0
-  shown-addresses j = ap (λ (q : OpenSide). getD (q .addresses) j 0) (h .is) ∙ padded-at openWidth (S .addresses) j
+  shown-addresses j = ap (λ (q : OpenSide). getD (q .addresses) j 0) (h .is) ∙ padded-at arrayWidth (S .addresses) j
 
   pub shown-wiring : (j : ℕ) → getD (o .wiring) j 0 ≡ getD (S .wiring) j 0
-  shown-wiring j = ap (λ (q : OpenSide). getD (q .wiring) j 0) (h .is) ∙ padded-at openWidth (S .wiring) j
+  shown-wiring j = ap (λ (q : OpenSide). getD (q .wiring) j 0) (h .is) ∙ padded-at arrayWidth (S .wiring) j
 
   pub shown-stages : (c b : ℕ) → afterStages (stagesFrom (o .stages)) c b ≡ afterStages (S .stages) c b
   shown-stages c b =
       let all = flat (S .stages) in
       let m = length (S .stages) in
-      let places : length (padded all) / 2 ≡ openStages = omega (arith, padded-length openWidth all (omega (arith, h .stages, flat-length (S .stages)))) in
+      let places : length (padded all) / 2 ≡ openStages = omega (arith, padded-length arrayWidth all (omega (arith, h .stages, flat-length (S .stages)))) in
       ap (λ (q : OpenSide). afterStages (stagesFrom (q .stages)) c b) (h .is)
       ∙ ap (λ (s : ℕ). afterStages (stagesIn s (padded all)) c b) places
-      ∙ ap (λ (ss : List Stage). afterStages ss c b) (same-stages openStages (padded all) all (padded-at openWidth all))
+      ∙ ap (λ (ss : List Stage). afterStages ss c b) (same-stages openStages (padded all) all (padded-at arrayWidth all))
       ∙ ap (λ (s : ℕ). afterStages (stagesIn s all) c b) {x = openStages} {y = m + (openStages - m)} (omega (arith, h .stages))
       ∙ idle-stages m (openStages - m) all (omega (arith, flat-length (S .stages))) c b
       ∙ ap (λ (ss : List Stage). afterStages ss c b) (flat-stages (S .stages))
 
-  pub whole-number : (a b c p : ℕ) → a * 2 ^ k + b ≡ cellAt k S c p → (a * 2 ^ o .k + b) % 2 ^ openWidth ≡ cellAt k S c p
+  pub whole-number : (a b c p : ℕ) → a * 2 ^ k + b ≡ cellAt k S c p → (a * 2 ^ o .k + b) % 2 ^ arrayWidth ≡ cellAt k S c p
   whole-number a b c p e =
-      let small : cellAt k S c p < 2 ^ openWidth = omega (arith, cell-lt (h .used) (h .ports) c p, pow-mono (h .words)) in
-      ap (λ (x : ℕ). (a * 2 ^ x + b) % 2 ^ openWidth) shown-k ∙ ap (λ (x : ℕ). x % 2 ^ openWidth) e ∙ mod-eq-of-lt small
+      let small : cellAt k S c p < 2 ^ arrayWidth = omega (arith, cell-lt (h .used) (h .ports) c p, pow-mono (h .words)) in
+      ap (λ (x : ℕ). (a * 2 ^ x + b) % 2 ^ arrayWidth) shown-k ∙ ap (λ (x : ℕ). x % 2 ^ arrayWidth) e ∙ mod-eq-of-lt small
 
 pub is-bank : (o : OpenSide) (c p : ℕ) {wired r : ℕ} → wired ≡ image (o .wiring) p → r ≡ afterStages (stagesFrom (o .stages)) c wired → IsBank o c p r
 is-bank o c p wired-is e n k S h =
@@ -73,7 +74,7 @@ is-bank o c p wired-is e n k S h =
     ∙ ap (afterStages (stagesFrom (o .stages)) c) (wired-is ∙ same-image (o .wiring) (S .wiring) (shown-wiring h) p)
     ∙ shown-stages h c (image (S .wiring) p)
 
-pub is-cell : {o : OpenSide} {a b r : ℕ} (c p : ℕ) → IsAddress o c p a → IsBank o c p b → r ≡ (a * 2 ^ o .k + b) % 2 ^ openWidth → IsCell o c p r
+pub is-cell : {o : OpenSide} {a b r : ℕ} (c p : ℕ) → IsAddress o c p a → IsBank o c p b → r ≡ (a * 2 ^ o .k + b) % 2 ^ arrayWidth → IsCell o c p r
 is-cell {a = a} {b} c p address bank e n k S h =
     e ∙ whole-number h a b c p (ap₂ (λ (x y : ℕ). x * 2 ^ k + y) (address n k S h) (bank n k S h))
 

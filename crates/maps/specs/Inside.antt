@@ -11,14 +11,15 @@ use Rattle.kinds.specs.Edition.{edition1, Sized}
 use Rattle.sheet.specs.Sheet.{Side, sideOf}
 use Rattle.sheet.specs.Layout.{FormedSide}
 use Rattle.switches.specs.Cells.{cellOf}
-use Rattle.maps.specs.Opened.{openWidth, Shows}
+use Rattle.bits.specs.Padded.{arrayWidth}
+use Rattle.maps.specs.Opened.{Shows}
 use Rattle.maps.specs.declared.OpenSide.{OpenSide}
 
 abbrev pub OpensSide : ℕ → List ℕ → OpenSide → Type 0
 OpensSide k l o = (n : ℕ) → Sized edition1 n k → FormedSide edition1 n k l → Shows n k o (sideOf edition1 n k l)
 
 abbrev pub IsColumn : OpenSide → ℕ → ℕ → Type 0
-IsColumn o j r = (n k : ℕ) (S : Side) → Shows n k o S → j < openWidth → r ≡ cellOf k S (2 ^ j)
+IsColumn o j r = (n k : ℕ) (S : Side) → Shows n k o S → j < arrayWidth → r ≡ cellOf k S (2 ^ j)
 
 pub record Doubled (m v : ℕ) (l r : List ℕ) : Type 0 where
   pub same : length r ≡ length l

@@ -1,6 +1,5 @@
 -- A side of a sheet that was opened: checked once, and then asked as often as one likes.
---   openWidth, openStages        an opened side has 16 places for columns, of either kind, and 8 for stages
---   padded l                     the numbers of l, and zeros after them, openWidth in all
+--   openStages                   an opened side has an array of columns of either kind, and one with places for 8 stages
 --   opened k S                   the side S, opened
 --   Shows n k o S                o is the side S, opened: S has n address columns, k wiring columns and at most openStages stages, all in range
 --   closed                       what stands in place of a side where the sheet was refused
@@ -29,21 +28,15 @@ use Rattle.kinds.specs.declared.Answer.the-variants.{Done, Refused}
 use Rattle.kinds.specs.declared.Refusal.{Refusal}
 use Rattle.bits.specs.Image.{AllBelow}
 use Rattle.sheet.specs.Sheet.{Side, writeSide, readSide, flat}
-use Rattle.bits.specs.Padded.{paddedTo}
+use Rattle.bits.specs.Padded.{arrayWidth, padded}
 use Rattle.sheet.specs.Layout.{InRange}
 use Rattle.sheet.specs.Table.{sheetTable}
 use Rattle.switches.specs.Cells.{addressAt, bankAt, cellAt, cellColumns}
 use Rattle.maps.specs.declared.OpenSide.{OpenSide}
 use Rattle.maps.specs.declared.Opened.{Opened}
 
-abbrev pub openWidth : ℕ
-openWidth = 16
-
 abbrev pub openStages : ℕ
 openStages = 8
-
-abbrev pub padded : List ℕ → List ℕ
-padded l = paddedTo openWidth l
 
 abbrev pub opened : ℕ → Side → OpenSide
 opened k S = record { k = k; addresses = padded (S .addresses); wiring = padded (S .wiring); stages = padded (flat (S .stages)) }
@@ -51,7 +44,7 @@ opened k S = record { k = k; addresses = padded (S .addresses); wiring = padded 
 pub record Shows (n k : ℕ) (o : OpenSide) (S : Side) : Type 0 where
   pub is : o ≡ opened k S
   pub ports : k ≤ n
-  pub words : n ≤ openWidth
+  pub words : n ≤ arrayWidth
   pub addresses : length (S .addresses) ≡ n
   pub wiring : length (S .wiring) ≡ k
   pub stages : length (S .stages) ≤ openStages

@@ -3,7 +3,8 @@ ghost use mathlib.Core.Path.{_≡_};
 ghost use Prim.Native.Nat.{_+_, _*_, _%_, _^_, _≤_};
 ghost use lib.ListN.{length, getD};
 ghost use Rattle.kinds.specs.Edition.{edition1, sidePlaces};
-ghost use Rattle.maps.specs.Opened.{openWidth, padded as paddedOf, unopened, Opens, Readdresses, IsAddress, IsBank, IsCell, IsWiring, AreColumns, ListsCells};
+ghost use Rattle.bits.specs.Padded.{arrayWidth, padded as paddedOf};
+ghost use Rattle.maps.specs.Opened.{unopened, Opens, Readdresses, IsAddress, IsBank, IsCell, IsWiring, AreColumns, ListsCells};
 ghost use Rattle.maps.specs.Inside.{OpensSide, IsColumn, Doubled};
 use kinds::Addr;
 use kinds::Answer;
@@ -80,7 +81,7 @@ fn open_side(k: u32, side: &[u16]) -> OpenSide
 
 // The numbers of a part, and zeros after them. Each place is written once, zeros too, so that the array can be copied at once in wide pieces.
 fn padded(part: &[u16]) -> [u16; WIDTH]
-    requires { ⌜ length (now part) ≤ openWidth ⌝ }
+    requires { ⌜ length (now part) ≤ arrayWidth ⌝ }
     ensures { λ r. ⌜ r ≡ paddedOf (now (part .entry)) ⌝ }
 {
     let mut numbers = [0; WIDTH];

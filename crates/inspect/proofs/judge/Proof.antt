@@ -20,7 +20,8 @@ use Rattle.order.specs.Order.{place}
 use Rattle.sheet.specs.Sheet.{Side, writeSide, readSide}
 use Rattle.bits.proofs.PaddedLaws.{padded-at, padded-part}
 use Rattle.switches.specs.Cells.{M, N, cellColumns}
-use Rattle.maps.specs.Opened.{openWidth, padded, Shows}
+use Rattle.bits.specs.Padded.{arrayWidth, padded}
+use Rattle.maps.specs.Opened.{Shows}
 use Rattle.promise.specs.Passes.{Invertible, ShareCell, Differ, shareCell?, differ?, passTable}
 use Rattle.inspect.proofs.ColumnLaws.{wiring-tells, cells-tell, columns-tell}
 use Rattle.inspect.proofs.judge.Statement.{statement}
@@ -29,7 +30,7 @@ use Rattle.inspect.proofs.judge.Tie as tie
 -- of a padded list, a test of the part that is used decides what the columns decide
 part-says : {b : Bool} {A : Type 0} {r : List ℕ} (m : ℕ) (l : List ℕ) → m ≡ length l → r ≡ padded l → A ↔ Independent l → Says b (Independent (take (m - 0) r)) → Says b A
 part-says m l count whole tells says =
-    let used = ap (take (m - 0)) whole ∙ padded-part openWidth l m count in
+    let used = ap (take (m - 0)) whole ∙ padded-part arrayWidth l m count in
     (λ e. tells .1 (subst Independent used (says .0 e)), λ a. says .1 (subst Independent (sym used) (tells .0 a)))
 
 wiring-requires : tie.Need-wiring-requires
@@ -128,7 +129,7 @@ module _ (c : tie.After-agree) (s : List ℕ) where
     says-8 = part-says n (cellColumns n k W) (sym (columns-length n (M edition1 n k s))) (listed .columns .ensures n k W write) (cells-tell write) (own .independent3 .ensures)
 
     column : (j : ℕ) → getD (listed .columns .result) j 0 ≡ getD (cellColumns n k W) j 0
-    column j = ap (λ (l : List ℕ). getD l j 0) (listed .columns .ensures n k W write) ∙ padded-at openWidth (cellColumns n k W) j
+    column j = ap (λ (l : List ℕ). getD l j 0) (listed .columns .ensures n k W write) ∙ padded-at arrayWidth (cellColumns n k W) j
 
     says-9 : Says (c .agree .result) (¬ Differ n (M edition1 n k s) (N edition1 n k s) (place C))
     says-9 =

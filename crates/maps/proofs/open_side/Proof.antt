@@ -12,7 +12,8 @@ use Rattle.sheet.specs.Layout.{FormedSide}
 use Rattle.sheet.proofs.StageLaws.{stages-length}
 use Rattle.sheet.proofs.PlaceLaws.{last-part}
 use Rattle.sheet.proofs.LayLaws.{padded-used, flat-part}
-use Rattle.maps.specs.Opened.{openWidth, padded, Shows}
+use Rattle.bits.specs.Padded.{arrayWidth, padded}
+use Rattle.maps.specs.Opened.{Shows}
 use Rattle.maps.specs.declared.OpenSide.{OpenSide}
 use Rattle.maps.proofs.open_side.Statement.{statement}
 use Rattle.maps.proofs.open_side.Tie as tie
@@ -29,7 +30,7 @@ module _ (k : ℕ) (l : List ℕ) (whole : length l ≡ sidePlaces edition1) (n 
 
   stages-in : padded stage-places ≡ padded (flat (stagesIn count stage-places))
   stages-in =
-      padded-used openWidth (2 * count) stage-places (omega (arith, long)) (formed .stages-unused)
+      padded-used arrayWidth (2 * count) stage-places (omega (arith, long)) (formed .stages-unused)
       ∙ ap padded (sym (flat-part count stage-places (omega (arith, formed .count, long))))
 
   shows : {ds ws ss : List ℕ} → ds ≡ padded (addressPlaces edition1 l) → ws ≡ padded (wiringPlaces edition1 l) → ss ≡ padded stage-places
@@ -39,8 +40,8 @@ module _ (k : ℕ) (l : List ℕ) (whole : length l ≡ sidePlaces edition1) (n 
       let wiring = length-take-le 5 (drop 10 l) (omega (arith, length-drop 10 l)) in
       record {
         is = is
-            (a ∙ padded-used openWidth n (addressPlaces edition1 l) (omega (arith, addresses)) (formed .addresses-unused))
-            (w ∙ padded-used openWidth k (wiringPlaces edition1 l) (omega (arith, wiring)) (formed .wiring-unused))
+            (a ∙ padded-used arrayWidth n (addressPlaces edition1 l) (omega (arith, addresses)) (formed .addresses-unused))
+            (w ∙ padded-used arrayWidth k (wiringPlaces edition1 l) (omega (arith, wiring)) (formed .wiring-unused))
             (s ∙ stages-in);
         ports = omega (arith, sized .most);
         words = omega (arith, sized .frame .most);

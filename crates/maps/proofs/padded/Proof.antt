@@ -6,18 +6,18 @@ use borrow.Author.Needs.{needs}
 use lib.ListN.{length}
 use Rattle.bits.proofs.PaddedLaws.{padded-length, padded-at}
 use Rattle.bits.proofs.FillLaws.{Filled, fill-none, fill-more, fill-whole}
-use Rattle.maps.specs.Opened.{openWidth, padded}
+use Rattle.bits.specs.Padded.{arrayWidth, padded}
 use Rattle.maps.proofs.padded.Statement.{statement}
 use Rattle.maps.proofs.padded.Tie as tie
 
 abbrev Inv-loop : tie.InvT-loop
-Inv-loop part numbers₀ j₀ numbers j = Filled openWidth (padded part) numbers j
+Inv-loop part numbers₀ j₀ numbers j = Filled arrayWidth (padded part) numbers j
 
 abbrev μ-loop : tie.MeasureT-loop
-μ-loop part numbers₀ j₀ numbers j = openWidth - j
+μ-loop part numbers₀ j₀ numbers j = arrayWidth - j
 
-places : (c : tie.Start Inv-loop μ-loop) → length (padded (c .args .part .now)) ≡ openWidth
-places c = padded-length openWidth (c .args .part .now) (c .pre)
+places : (c : tie.Start Inv-loop μ-loop) → length (padded (c .args .part .now)) ≡ arrayWidth
+places c = padded-length arrayWidth (c .args .part .now) (c .pre)
 
 loop-holds : tie.Need-loop-holds Inv-loop μ-loop
 loop-holds c = fill-none (omega (arith, places (c .before)))
@@ -40,7 +40,7 @@ loop-less c = search needs
 loop-again : tie.Need-loop-again Inv-loop μ-loop
 loop-again c =
     let start = c .before .before .before .before in
-    fill-more (c .before .before .loop .inv) (omega (arith, places start)) (c .number-at .ensures ∙ sym (padded-at openWidth (start .args .part .now) _))
+    fill-more (c .before .before .loop .inv) (omega (arith, places start)) (c .number-at .ensures ∙ sym (padded-at arrayWidth (start .args .part .now) _))
 
 returns : tie.Need-returns Inv-loop μ-loop
 returns c = fill-whole (c .before .loop .inv) (places (c .before .before .before)) (c .loop-test .left)

@@ -6,13 +6,14 @@ use lib.ListN.{length}
 use Rattle.kinds.specs.Frame.{wordAt}
 use Rattle.bits.specs.Image.{image}
 use Rattle.bits.proofs.ImageLaws.{image-mod, same-image}
-use Rattle.maps.specs.Opened.{openWidth, IsAddress}
+use Rattle.bits.specs.Padded.{arrayWidth}
+use Rattle.maps.specs.Opened.{IsAddress}
 use Rattle.maps.specs.declared.OpenSide.{OpenSide}
 use Rattle.maps.proofs.OpenLaws.{shown-k, shown-addresses}
 use Rattle.maps.proofs.OpenSide.address.Statement.{statement}
 use Rattle.maps.proofs.OpenSide.address.Tie as tie
 
-addressed : (o : OpenSide) (c p : ℕ) {word r : ℕ} → length (o .addresses) ≡ openWidth → word ≡ wordAt (o .k) c p % 2 ^ openWidth → r ≡ image (o .addresses) word
+addressed : (o : OpenSide) (c p : ℕ) {word r : ℕ} → length (o .addresses) ≡ arrayWidth → word ≡ wordAt (o .k) c p % 2 ^ arrayWidth → r ≡ image (o .addresses) word
     → IsAddress o c p r
 addressed o c p long word-is e n k S h =
     e

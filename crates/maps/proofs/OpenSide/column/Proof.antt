@@ -9,7 +9,8 @@ use Rattle.kinds.specs.Frame.{tickOf, portOf}
 use Rattle.sheet.specs.Sheet.{Side, stagesFrom}
 use Rattle.switches.specs.Stages.{afterStages}
 use Rattle.switches.specs.Cells.{cellOf}
-use Rattle.maps.specs.Opened.{openWidth, Shows}
+use Rattle.bits.specs.Padded.{arrayWidth}
+use Rattle.maps.specs.Opened.{Shows}
 use Rattle.maps.specs.Inside.{IsColumn}
 use Rattle.maps.specs.declared.OpenSide.{OpenSide}
 use Rattle.switches.proofs.CellLaws.{port-column, tick-column}
@@ -19,25 +20,25 @@ use Rattle.maps.proofs.OpenSide.column.Tie as tie
 
 module _ (o : OpenSide) (j : ℕ) where
   abbrev at : ℕ
-  at = j % openWidth
+  at = j % arrayWidth
 
-  shown : (cs ds : List ℕ) → ((l : ℕ) → getD cs l 0 ≡ getD ds l 0) → j < openWidth → getD cs at 0 ≡ getD ds j 0
+  shown : (cs ds : List ℕ) → ((l : ℕ) → getD cs l 0 ≡ getD ds l 0) → j < arrayWidth → getD cs at 0 ≡ getD ds j 0
   shown cs ds same small = ap (λ (x : ℕ). getD cs x 0) (omega arith) ∙ same j
 
   -- the number that the code makes of a column's address and bank
-  made : {n k : ℕ} {S : Side} {b r : ℕ} (b′ : ℕ) → Shows n k o S → j < openWidth → r ≡ (getD (o .addresses) at 0 * 2 ^ o .k + b) % 2 ^ openWidth → b ≡ b′
+  made : {n k : ℕ} {S : Side} {b r : ℕ} (b′ : ℕ) → Shows n k o S → j < arrayWidth → r ≡ (getD (o .addresses) at 0 * 2 ^ o .k + b) % 2 ^ arrayWidth → b ≡ b′
       → cellOf k S (2 ^ j) ≡ getD (S .addresses) j 0 * 2 ^ k + b′ → r ≡ cellOf k S (2 ^ j)
   made {k = k} {S} {b} b′ h small e bank column =
       e
       ∙ whole-number h (getD (o .addresses) at 0) b (tickOf k (2 ^ j)) (portOf k (2 ^ j))
       (ap₂ (λ (x y : ℕ). x * 2 ^ k + y) (shown (o .addresses) (S .addresses) (shown-addresses h) small) bank ∙ sym column)
 
-  port : {r : ℕ} → at < o .k → r ≡ (getD (o .addresses) at 0 * 2 ^ o .k + getD (o .wiring) at 0) % 2 ^ openWidth → IsColumn o j r
+  port : {r : ℕ} → at < o .k → r ≡ (getD (o .addresses) at 0 * 2 ^ o .k + getD (o .wiring) at 0) % 2 ^ arrayWidth → IsColumn o j r
   port low e n k S h small =
       made (getD (S .wiring) j 0) h small e (shown (o .wiring) (S .wiring) (shown-wiring h) small) (port-column k S j (omega (arith, shown-k h)))
 
   tick : {t b r : ℕ} → o .k ≤ at → t ≡ 2 ^ (at - o .k) → b ≡ afterStages (stagesFrom (o .stages)) t 0
-      → r ≡ (getD (o .addresses) at 0 * 2 ^ o .k + b) % 2 ^ openWidth → IsColumn o j r
+      → r ≡ (getD (o .addresses) at 0 * 2 ^ o .k + b) % 2 ^ arrayWidth → IsColumn o j r
   tick {t} high t-is bank e n k S h small =
       made (afterStages (S .stages) (2 ^ (j - k)) 0) h small e
       (bank ∙ shown-stages h t 0 ∙ ap (λ (x : ℕ). afterStages (S .stages) x 0) (t-is ∙ ap (λ (x : ℕ). 2 ^ x) (omega (arith, shown-k h))))

@@ -11,7 +11,8 @@ use Rattle.sheet.specs.Sheet.{Side}
 use Rattle.bits.proofs.PaddedLaws.{padded-length, padded-at}
 use Rattle.bits.proofs.FillLaws.{Filled, fill-none, fill-more, fill-whole}
 use Rattle.switches.specs.Cells.{cellOf, cellColumns}
-use Rattle.maps.specs.Opened.{openWidth, padded, Shows, AreColumns}
+use Rattle.bits.specs.Padded.{arrayWidth, padded}
+use Rattle.maps.specs.Opened.{Shows, AreColumns}
 use Rattle.maps.specs.Inside.{IsColumn}
 use Rattle.maps.specs.declared.OpenSide.{OpenSide}
 use Rattle.switches.proofs.CellLaws.{column-beyond}
@@ -25,33 +26,33 @@ module _ {n k : ℕ} {o : OpenSide} {S : Side} (h : Shows n k o S) where
   count : length C ≡ n
   count = columns-length n (cellOf k S)
 
-  places : length (padded C) ≡ openWidth
-  places = padded-length openWidth C (omega (arith, count, h .words))
+  places : length (padded C) ≡ arrayWidth
+  places = padded-length arrayWidth C (omega (arith, count, h .words))
 
   shown : (j : ℕ) → cellOf k S (2 ^ j) ≡ getD (padded C) j 0
   shown j = elim (decLt j n) [
-    | yes b ↦ sym (padded-at openWidth C j ∙ columns-at n (cellOf k S) j b)
-    | no b ↦ column-beyond (h .used) (h .ports) (h .addresses) j (omega arith) ∙ sym (padded-at openWidth C j ∙ List·getD-eq-default C 0 (omega (arith, count)))
+    | yes b ↦ sym (padded-at arrayWidth C j ∙ columns-at n (cellOf k S) j b)
+    | no b ↦ column-beyond (h .used) (h .ports) (h .addresses) j (omega arith) ∙ sym (padded-at arrayWidth C j ∙ List·getD-eq-default C 0 (omega (arith, count)))
   ]
 
 record Filling (o : OpenSide) (r : List ℕ) (j : ℕ) : Type 0 where
-  each : (n k : ℕ) (S : Side) → Shows n k o S → Filled openWidth (padded (cellColumns n k S)) r j
+  each : (n k : ℕ) (S : Side) → Shows n k o S → Filled arrayWidth (padded (cellColumns n k S)) r j
 
-start : {o : OpenSide} → Filling o (replicate openWidth 0) 0
+start : {o : OpenSide} → Filling o (replicate arrayWidth 0) 0
 start = record { each = λ n k S h. fill-none (omega (arith, places h)) }
 
 module _ {o : OpenSide} {r : List ℕ} {j : ℕ} (i : Filling o r j) where
-  more : {v : ℕ} → j < openWidth → IsColumn o j v → Filling o (set r j v) (j + 1)
+  more : {v : ℕ} → j < arrayWidth → IsColumn o j v → Filling o (set r j v) (j + 1)
   more small column = record { each = λ n k S h. fill-more (i .each n k S h) (omega (arith, places h)) (column n k S h small ∙ shown h j) }
 
-  done : openWidth ≤ j → AreColumns o r
+  done : arrayWidth ≤ j → AreColumns o r
   done end n k S h = fill-whole (i .each n k S h) (places h) end
 
 abbrev Inv-loop : tie.InvT-loop
 Inv-loop self columns₀ j₀ columns j = Filling self columns j
 
 abbrev μ-loop : tie.MeasureT-loop
-μ-loop self columns₀ j₀ columns j = openWidth - j
+μ-loop self columns₀ j₀ columns j = arrayWidth - j
 
 loop-holds : tie.Need-loop-holds Inv-loop μ-loop
 loop-holds c = start

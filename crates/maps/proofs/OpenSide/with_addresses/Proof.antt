@@ -6,7 +6,8 @@ use lib.ListN.{length}
 use Rattle.kinds.specs.Frame.{tickBits}
 use Rattle.bits.specs.Image.{AllBelow}
 use Rattle.sheet.specs.Sheet.{Side}
-use Rattle.maps.specs.Opened.{padded, readdressed, Shows}
+use Rattle.bits.specs.Padded.{padded}
+use Rattle.maps.specs.Opened.{readdressed, Shows}
 use Rattle.maps.specs.declared.OpenSide.{OpenSide}
 use Rattle.maps.proofs.OpenSide.with_addresses.Statement.{statement}
 use Rattle.maps.proofs.OpenSide.with_addresses.Tie as tie

@@ -5,6 +5,7 @@
 --   passed-refused       what the inspector refuses shows no side
 --   inspects-right       of a sheet that is right, passed is
 --   inspects-unique      the inspector has one answer
+--   passed-unique        and hands on one pair of sides
 use Prim.Native.Nat.{ℕ}
 use mathlib.Core.Path.{_≡_, refl, sym, ap, _∙_}
 use mathlib.Core.List.{List, _∷_}
@@ -26,6 +27,7 @@ use Rattle.sheet.specs.Layout.{wellFormed?}
 use Rattle.sheet.specs.Table.{brokenLayout, sheetLengths}
 use Rattle.maps.specs.Opened.{unopened}
 use Rattle.maps.specs.declared.Opened.{Opened}
+use Rattle.maps.proofs.OpenLaws.{sides-unique}
 use Rattle.promise.specs.Series.{Right}
 use Rattle.promise.specs.Passes.{passTable, Passes}
 use Rattle.promise.proofs.ExactLaws.{exact}
@@ -88,3 +90,8 @@ module _ {e : Edition} {n k : ℕ} {C s : List ℕ} where
 
 pub inspects-unique : {e : Edition} {n k : ℕ} {C s : List ℕ} (r q : Answer) → Inspects e n k C s r → Inspects e n k C s q → r ≡ q
 inspects-unique r q i j = said-same r q (i .first-of ∙ sym (j .first-of))
+
+pub passed-unique : {e : Edition} {n k : ℕ} {C s : List ℕ} (r q : Opened) → OpensPassed e n k C s r → OpensPassed e n k C s q → r ≡ q
+passed-unique r q a b =
+    sides-unique r q (inspects-unique (r .answer) (q .answer) (a .answer) (b .answer))
+    (λ d. (a .write d, a .read d)) (λ d. (b .write d, b .read d)) (a .refused) (b .refused)

@@ -1,7 +1,7 @@
 -- Stages that are handed on, and sides that are laid out.
 --   pairs ds cs          the stages with the directions ds and the controls cs, as long as there are both
 --   staged ss            the stages ss as they stand on a sheet, with zeros after them, and how many there are
---   Shows o ss           o is the stages ss, no more than a side may have
+--   ShowsStages o ss     o is the stages ss, no more than a side may have
 --   Adds o d c r         r is whichever stages o shows, and after them the one with direction d and control c; but o where it shows as many as a side may have
 --   AreNumbers o r       r is the numbers of whichever stages o shows, as they stand on a sheet, and zeros after them
 --   Counts o r           r is how many stages o shows; whatever o is, no more than a side may have
@@ -24,22 +24,22 @@ pairs (d ∷ ds) (c ∷ cs) = record { direction = d; control = c } ∷ pairs ds
 abbrev pub staged : List Stage → Stages
 staged ss = record { numbers = padded (flat ss); count = length ss }
 
-pub record Shows (o : Stages) (ss : List Stage) : Type 0 where
+pub record ShowsStages (o : Stages) (ss : List Stage) : Type 0 where
   pub is : o ≡ staged ss
   pub few : length ss ≤ edition1 .most-stages
 
 pub record Adds (o : Stages) (d c : ℕ) (r : Stages) : Type 0 where
-  pub more : (ss : List Stage) → Shows o ss → length ss < edition1 .most-stages → Shows r (ss ++ (record { direction = d; control = c } ∷ []))
-  pub full : (ss : List Stage) → Shows o ss → edition1 .most-stages ≤ length ss → r ≡ o
+  pub more : (ss : List Stage) → ShowsStages o ss → length ss < edition1 .most-stages → ShowsStages r (ss ++ (record { direction = d; control = c } ∷ []))
+  pub full : (ss : List Stage) → ShowsStages o ss → edition1 .most-stages ≤ length ss → r ≡ o
 
 abbrev pub AreNumbers : Stages → List ℕ → Type 0
-AreNumbers o r = (ss : List Stage) → Shows o ss → r ≡ padded (flat ss)
+AreNumbers o r = (ss : List Stage) → ShowsStages o ss → r ≡ padded (flat ss)
 
 pub record Counts (o : Stages) (r : ℕ) : Type 0 where
   pub most : r ≤ edition1 .most-stages
-  pub counted : (ss : List Stage) → Shows o ss → r ≡ length ss
+  pub counted : (ss : List Stage) → ShowsStages o ss → r ≡ length ss
 
 pub record Lays (A W : List ℕ) (o : Stages) (l l' : List ℕ) : Type 0 where
-  pub laid : (ss : List Stage) → Shows o ss → length l ≡ sidePlaces edition1
+  pub laid : (ss : List Stage) → ShowsStages o ss → length l ≡ sidePlaces edition1
       → l' ≡ laidOut edition1 (record { addresses = take (edition1 .most-n) A; wiring = take (edition1 .most-k) W; stages = ss })
   pub no-side : ¬ (length l ≡ sidePlaces edition1) → l' ≡ l

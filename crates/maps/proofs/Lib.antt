@@ -1,2 +1,3 @@
--- Laws of the two maps.
+-- Laws of a side that was opened.
 pub mod OpenLaws
+pub mod AddressLaws

@@ -4,9 +4,10 @@
 --   shown-stages      its stages leave the same bank
 --   whole-number      a cell loses no bit as a number of 16 bits
 --   is-bank, is-cell  the stages of an opened side after its wiring give the bank of a word; address*2^k + bank is its cell
---   closed-shows      what stands for a side of a refused sheet shows one too, so every opened side that can be had shows one
+--   closed-shows      what stands for a side of a refused sheet shows one too, and so does a side with other addresses (`readdressed-shows`): every opened side that can be had shows one
 --   opens-refused     what a check refuses, opening refuses
---   opens-unique      opening a sheet has one answer
+--   sides-unique      an answer with the two sides of a sheet where nothing is refused, and none where something is, is one
+--   opens-unique      so opening a sheet has one answer
 --   lists-unique      the cells of a tick have one answer, and leave one content
 use Prim.Native.Nat.{ℕ, _+_, _-_, _*_, _/_, _%_, _^_, _<_}
 use mathlib.Core.Path.{_≡_, refl, sym, ap, ap₂, _∙_}
@@ -101,23 +102,24 @@ opens-refused checks given e =
       refused = λ y same. (refl, refl);
     })
 
-module _ {e : Edition} {n k : ℕ} {s : List ℕ} {fits : Bool} (r q : Opened) (a : Opens e n k s fits r) (b : Opens e n k s fits q) where
-  pub opens-unique : r ≡ q
-  opens-unique = go (r .answer) refl
+module _ {n k : ℕ} {W R : Side} (r q : Opened) (same : r .answer ≡ q .answer)
+    (a : r .answer ≡ Done → Shows n k (r .write) W × Shows n k (r .read) R) (b : q .answer ≡ Done → Shows n k (q .write) W × Shows n k (q .read) R)
+    (shut : (x : Refusal) → r .answer ≡ Refused x → (r .write ≡ closed) × (r .read ≡ closed))
+    (shut′ : (x : Refusal) → q .answer ≡ Refused x → (q .write ≡ closed) × (q .read ≡ closed)) where
+  pub sides-unique : r ≡ q
+  sides-unique = go (r .answer) refl
     where
-      said-alike : r .answer ≡ q .answer
-      said-alike = checks-unique (sheetTable e n k s) fits (r .answer) (q .answer) (a .answer) (b .answer)
-
       alike : {x y : Answer} {o p v w : OpenSide} → x ≡ y → o ≡ p → v ≡ w → _≡_ {A = Opened} (record { answer = x; write = o; read = v }) (record { answer = y; write = p; read = w })
       alike f g h = cc
 
       go : (x : Answer) → r .answer ≡ x → r ≡ q
-      go Done d =
-          let f = sym said-alike ∙ d in
-          alike said-alike (a .write d .is ∙ sym (b .write f .is)) (a .read d .is ∙ sym (b .read f .is))
-      go (Refused x) d =
-          let f = sym said-alike ∙ d in
-          alike said-alike (a .refused x d .0 ∙ sym (b .refused x f .0)) (a .refused x d .1 ∙ sym (b .refused x f .1))
+      go Done d = let f = sym same ∙ d in alike same (a d .0 .is ∙ sym (b f .0 .is)) (a d .1 .is ∙ sym (b f .1 .is))
+      go (Refused x) d = let f = sym same ∙ d in alike same (shut x d .0 ∙ sym (shut′ x f .0)) (shut x d .1 ∙ sym (shut′ x f .1))
+
+pub opens-unique : {e : Edition} {n k : ℕ} {s : List ℕ} {fits : Bool} (r q : Opened) → Opens e n k s fits r → Opens e n k s fits q → r ≡ q
+opens-unique {e} {n} {k} {s} {fits} r q a b =
+    sides-unique r q (checks-unique (sheetTable e n k s) fits (r .answer) (q .answer) (a .answer) (b .answer))
+    (λ d. (a .write d, a .read d)) (λ d. (b .write d, b .read d)) (a .refused) (b .refused)
 
 pub lists-unique : {n k : ℕ} {o : OpenSide} {S : Side} (c : ℕ) (out a b : List ℕ) (r q : Answer) → Shows n k o S
     → ListsCells o c out a r → ListsCells o c out b q → (r ≡ q) × (a ≡ b)

@@ -1,3 +1,3 @@
--- The two maps of a sheet, and what is promised of a side that was opened.
+-- What is promised of a side that was opened.
 pub mod Opened
 pub mod Inside

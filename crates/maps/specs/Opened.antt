@@ -6,14 +6,15 @@
 --   unopened x                   what is opened where the refusal x is given: neither side
 --   Opens e n k s fits r         opening the sheet s: r has the lowest of 1, 2 and 5 that applies, fits as in `Checks`; where none does, r shows both sides
 --   readdressed B S              the side S with the address columns B in place of its own
---   Readdresses o A r            r is o with the address columns A: where o shows a side, and A is n columns in range, and zeros after them, r shows that side with these
+--   Addressable k A              the columns A may be the addresses of a side with k wiring columns: no cell's number then has more than 16 bits
+--   Readdresses o A r            r is o with the address columns A, if they may be; else o. Where o shows a side, and A is n columns in range, and zeros after them, r shows that side with these
 --   IsAddress o c p r            r is the address of the word at tick c, port p, on whichever side o shows
 --   IsBank o c p r               r is its bank
 --   IsCell o c p r               r is its cell
 --   IsWiring o r                 r is the wiring columns of that side, and zeros after them
 --   AreColumns o r               r is the columns of that side's map, and zeros after them
 --   ListsCells o c out out' r    all cells of one tick into a lent buffer, which has 2^k places or is refused: done, out' is these, by port; refused, out as it came
-use Prim.Native.Nat.{ℕ, _^_, _≤_}
+use Prim.Native.Nat.{ℕ, _-_, _^_, _≤_}
 use mathlib.Core.Path.{_≡_}
 use mathlib.Core.Bool.{Bool}
 use mathlib.Core.List.{List, [], _∷_}
@@ -65,8 +66,13 @@ pub record Opens (e : Edition) (n k : ℕ) (s : List ℕ) (fits : Bool) (r : Ope
 abbrev pub readdressed : List ℕ → Side → Side
 readdressed B S = record { addresses = B; wiring = S .wiring; stages = S .stages }
 
+pub record Addressable (k : ℕ) (A : List ℕ) : Type 0 where
+  pub ports : k ≤ arrayWidth
+  pub below : AllBelow (2 ^ (arrayWidth - k)) A
+
 pub record Readdresses (o : OpenSide) (A : List ℕ) (r : OpenSide) : Type 0 where
-  pub is : r ≡ record { k = o .k; addresses = A; wiring = o .wiring; stages = o .stages }
+  pub taken : Addressable (o .k) A → r ≡ record { k = o .k; addresses = A; wiring = o .wiring; stages = o .stages }
+  pub kept : ¬ Addressable (o .k) A → r ≡ o
   pub shows : (n k : ℕ) (S : Side) (B : List ℕ) → Shows n k o S → A ≡ padded B → length B ≡ n → AllBelow (2 ^ tickBits n k) B → Shows n k r (readdressed B S)
 
 abbrev pub IsAddress : OpenSide → ℕ → ℕ → ℕ → Type 0

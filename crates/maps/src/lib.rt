@@ -1,4 +1,4 @@
-// The two maps of a sheet: which cell each word has, on the write side and on the read side.
+// A side of a sheet that was opened: checked once, and then asked for the address, the bank and the cell of each word.
 ghost use mathlib.Core.Path.{_≡_};
 ghost use Prim.Native.Nat.{_+_, _*_, _%_, _^_, _≤_};
 ghost use lib.ListN.{length, getD};
@@ -16,7 +16,7 @@ use kinds::Tick;
 // Places of an opened side for its columns, of either kind, and for its stages.
 const WIDTH: usize = 16;
 
-// A side of a sheet that keeps the layout, with zeros after what it uses: a column or a direction of 0 changes nothing, so a loop may go through every place.
+// A side with what it uses in range, and zeros after that: a column or a direction of 0 changes nothing, so a loop may go through every place.
 pub struct OpenSide {
     k: u32,
     addresses: [u16; WIDTH],
@@ -136,14 +136,21 @@ impl OpenSide {
         self.wiring
     }
 
-    // The side with other address columns, and zeros after them: whichever run chooses its own addresses keeps the sheet's banks.
+    // The side with other address columns, and zeros after them: whichever run chooses its own addresses keeps the sheet's banks. Where a cell would have more than 16 bits, the side as it is.
     pub fn with_addresses(self, addresses: [u16; WIDTH]) -> OpenSide
         ensures { λ r. ⌜ Readdresses self addresses r ⌝ }
     {
+        let k = self.k;
+        if 16 < k {
+            return self;
+        }
+        if !bits::within_bits(&addresses, 16 - k) {
+            return self;
+        }
         let wiring = self.wiring;
         let stages = self.stages;
         OpenSide {
-            k: self.k,
+            k,
             addresses,
             wiring,
             stages,

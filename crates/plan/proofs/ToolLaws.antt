@@ -1,5 +1,6 @@
 -- What follows from the planner's contract alone.
 --   plans-unique      it has one answer, and leaves one content
+--   plans-with-unique so has the sheet with given read stages
 --   plans-done        every order within the sizes is planned, if the lent sheet has its places
 --   plans-exist       and the planned sheet is such an answer
 -- And what its check tells, where it says a:
@@ -29,8 +30,10 @@ use Rattle.sheet.specs.Sheet.{Stage}
 use Rattle.sheet.specs.Table.{sheetLengths}
 use Rattle.promise.specs.Series.{Right}
 use Rattle.promise.proofs.ExactLaws.{passes-right}
+use Rattle.lay.specs.Staged.{ShowsStages}
+use Rattle.lay.specs.declared.Stages.{Stages}
 use Rattle.plan.specs.Planned.{StagesInRange, Wires, sheetWith, plannedSheet}
-use Rattle.plan.specs.Tool.{planTable, outOfRange, withTable, IsPlanned, Plans}
+use Rattle.plan.specs.Tool.{planTable, outOfRange, withTable, IsPlanned, Plans, PlansWith}
 use Rattle.plan.specs.Inside.{Plannable}
 use Rattle.plan.proofs.WithLaws.{wires-vanish, with-formed, with-passes}
 use Rattle.plan.proofs.PlannedLaws.{planned}
@@ -40,6 +43,12 @@ module _ (e : Edition) (n k : ℕ) (C s : List ℕ) where
   plans-unique a b r q p o = (
     said-same r q (answers-same p o),
     answers-agree p o (λ l u w. u .constructed ∙ sym (w .constructed)) (λ x y. x ∙ sym y),
+  )
+
+  pub plans-with-unique : {o : Stages} {ss : List Stage} → ShowsStages o ss → (a b : List ℕ) (r q : Answer) → PlansWith e n k o C s a r → PlansWith e n k o C s b q → (r ≡ q) × (a ≡ b)
+  plans-with-unique {ss = ss} shown a b r q p o = (
+    said-same r q (answers-same (p ss shown) (o ss shown)),
+    answers-agree (p ss shown) (o ss shown) (λ l u w. u ∙ sym w) (λ x y. x ∙ sym y),
   )
 
   module _ (sized : Sized e n k) (order : Order n C) (places : length s ≡ sheetPlaces e) where

@@ -4,7 +4,7 @@
 --   Plannable n k C s        and s has all places of a sheet
 --   ReadRoom n k l           sizes are sound, and l is all places of a side
 --   WriteRoom n k C l        sizes and order are sound, and l is all places of a side
---   Writes n k o C s         s is the sheet with whichever stages o shows, if these are in range
+--   WritesSheet n k o C s    s is the sheet with whichever stages o shows, if these are in range
 --   LaysRead n k o l         the places l are the read side with whichever stages o shows
 --   LaysWrite n k o C l      the places l are the write side that goes with these, if they are in range
 --   bankThrough k G x        the bank of place x where the wiring is the identity, and G are the numbers of the stages
@@ -21,13 +21,13 @@ use Rattle.bits.specs.Padded.{padded}
 use Rattle.order.specs.Order.{Order}
 use Rattle.sheet.specs.Sheet.{Stage, stagesFrom, laidOut}
 use Rattle.switches.specs.Stages.{afterStages}
-use Rattle.lay.specs.Staged.{Shows}
+use Rattle.lay.specs.Staged.{ShowsStages}
 use Rattle.lay.specs.declared.Stages.{Stages}
 use Rattle.plan.specs.Planned.{StagesInRange, readWith, writeWith, sheetWith}
 use Rattle.plan.specs.declared.Cells.{Cells}
 
 abbrev pub SaysInRange : ℕ → ℕ → Stages → Bool → Type 0
-SaysInRange n k o b = (ss : List Stage) → Shows o ss → Says b (StagesInRange n k ss)
+SaysInRange n k o b = (ss : List Stage) → ShowsStages o ss → Says b (StagesInRange n k ss)
 
 pub record Ordered (n k : ℕ) (C : List ℕ) : Type 0 where
   pub sized : Sized edition1 n k
@@ -45,14 +45,14 @@ pub record WriteRoom (n k : ℕ) (C l : List ℕ) : Type 0 where
   pub ordered : Ordered n k C
   pub side : length l ≡ sidePlaces edition1
 
-abbrev pub Writes : ℕ → ℕ → Stages → List ℕ → List ℕ → Type 0
-Writes n k o C s = (ss : List Stage) → Shows o ss → StagesInRange n k ss → s ≡ sheetWith edition1 n k ss C
+abbrev pub WritesSheet : ℕ → ℕ → Stages → List ℕ → List ℕ → Type 0
+WritesSheet n k o C s = (ss : List Stage) → ShowsStages o ss → StagesInRange n k ss → s ≡ sheetWith edition1 n k ss C
 
 abbrev pub LaysRead : ℕ → ℕ → Stages → List ℕ → Type 0
-LaysRead n k o l = (ss : List Stage) → Shows o ss → l ≡ laidOut edition1 (readWith n k ss)
+LaysRead n k o l = (ss : List Stage) → ShowsStages o ss → l ≡ laidOut edition1 (readWith n k ss)
 
 abbrev pub LaysWrite : ℕ → ℕ → Stages → List ℕ → List ℕ → Type 0
-LaysWrite n k o C l = (ss : List Stage) → Shows o ss → StagesInRange n k ss → l ≡ laidOut edition1 (writeWith n k ss C)
+LaysWrite n k o C l = (ss : List Stage) → ShowsStages o ss → StagesInRange n k ss → l ≡ laidOut edition1 (writeWith n k ss C)
 
 abbrev pub bankThrough : ℕ → List ℕ → ℕ → ℕ
 bankThrough k G x = afterStages (stagesFrom G) (tickOf k x) (portOf k x)

@@ -4,6 +4,7 @@
 --   mWith n k ss C i         "M = N P"
 --   writeWith n k ss C       the write side, which has M for its map
 --   sheetWith e n k ss C     the sheet
+-- When such a sheet passes (a law: no contract asks for it):
 --   wiringWith k ss C p      the port-to-bank part of M: P1, and what the read stages add to it
 --   Wires k ss C             it sends no two ports to one bank
 -- The planner's choices:

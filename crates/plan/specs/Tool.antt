@@ -23,7 +23,7 @@ use Rattle.order.specs.Table.{orderTable}
 use Rattle.sheet.specs.Sheet.{Stage, readSide}
 use Rattle.sheet.specs.Layout.{WellFormed, stageInRange?, eachStage?}
 use Rattle.sheet.specs.Table.{sheetLengths}
-use Rattle.lay.specs.Staged.{Shows}
+use Rattle.lay.specs.Staged.{ShowsStages}
 use Rattle.lay.specs.declared.Stages.{Stages}
 use Rattle.promise.specs.Series.{Right}
 use Rattle.plan.specs.Planned.{sheetWith, plannedSheet}
@@ -47,7 +47,7 @@ abbrev pub withTable : Edition → ℕ → ℕ → List Stage → List ℕ → L
 withTable e n k ss C s = planTable e n k C s ++ (outOfRange n k ss ∷ [])
 
 abbrev pub PlansWith : Edition → ℕ → ℕ → Stages → List ℕ → List ℕ → List ℕ → Answer → Type 0
-PlansWith e n k o C s s' r = (ss : List Stage) → Shows o ss → Answers (withTable e n k ss C s) (said r) (s' ≡ sheetWith e n k ss C) (s' ≡ s)
+PlansWith e n k o C s s' r = (ss : List Stage) → ShowsStages o ss → Answers (withTable e n k ss C s) (said r) (s' ≡ sheetWith e n k ss C) (s' ≡ s)
 
 abbrev pub Plans : Edition → ℕ → ℕ → List ℕ → List ℕ → List ℕ → Answer → Type 0
 Plans e n k C s s' r = Answers (planTable e n k C s) (said r) (IsPlanned e n k C s') (s' ≡ s)

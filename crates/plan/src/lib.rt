@@ -9,12 +9,11 @@ ghost use Rattle.switches.specs.Written.{keptStages};
 ghost use Rattle.lay.specs.Staged.{staged};
 ghost use Rattle.plan.specs.Planned.{readStages};
 ghost use Rattle.plan.specs.Tool.{Plans, PlansWith};
-ghost use Rattle.plan.specs.Inside.{SaysInRange, Ordered, Plannable, ReadRoom, WriteRoom, Writes, LaysRead, LaysWrite, bankThrough, drawn};
+ghost use Rattle.plan.specs.Inside.{SaysInRange, Ordered, Plannable, ReadRoom, WriteRoom, WritesSheet, LaysRead, LaysWrite, bankThrough, drawn};
 use kinds::Addr;
 use kinds::Answer;
 use kinds::Bank;
 use kinds::Refusal;
-use kinds::Tick;
 use lay::Stages;
 
 // Room for the columns of an order, and for their cells.
@@ -85,7 +84,7 @@ fn read_stages(n: u32, k: u32, columns: &[u16]) -> Stages
 
 fn write_sheet(n: u32, k: u32, columns: &[u16], read: Stages, sheet: &mut [u16])
     requires { ⌜ Plannable n k (now columns) (now sheet) ⌝ }
-    ensures { λ r. ⌜ Writes n k read (now (columns .entry)) (now (sheet .exit)) ⌝ }
+    ensures { λ r. ⌜ WritesSheet n k read (now (columns .entry)) (now (sheet .exit)) ⌝ }
 {
     lay_read_side(n, k, read, &mut sheet[sheet::SIDE..]);
     lay_write_side(n, k, columns, read, &mut sheet[0..sheet::SIDE]);
@@ -130,11 +129,11 @@ fn read_cell(place: u32, k: u32, stages: &[u16]) -> Cell
     ensures { λ r. ⌜ r .bank .0 ≡ bankThrough k (now (stages .entry)) place ⌝ }
 {
     let slot = switches::slot_of(place, k);
-    let tick = slot.tick.0;
-    let port = slot.port.0;
-    let bank = switches::after_stages(stages, Tick(tick), Bank(port));
+    let tick = slot.tick;
+    let port = slot.port;
+    let bank = switches::after_stages(stages, tick, Bank(port.0));
     Cell {
-        address: Addr(tick),
+        address: Addr(tick.0),
         bank,
     }
 }

@@ -86,7 +86,7 @@ pub fn list_rows(masks: &[u16], a: usize, b: usize, kept: bool) -> Listed
     Listed { units, count }
 }
 
-// 2^0, 2^1, .. from place a up to b - 1, 15 at most, and zeros elsewhere.
+// 2^0, 2^1, .. from place a up to b - 1, or to the last of 16, and zeros elsewhere.
 pub fn unit_columns(a: usize, b: usize) -> [u16; WIDTH]
     ensures { λ r. ⌜ r ≡ padded (columnsOf (min b arrayWidth) (λ x. x / 2 ^ a)) ⌝ }
 {

@@ -4,6 +4,7 @@
 --   sheet-call-filled              and the filled marks have grown by the words that came, 2^k or none, and shrunk by those that were handed out, 2^k or none
 --   ticks-idle                     where no tick is handed out, the out buffer is as it came
 --   ticks-unique                   the run has one answer, and leaves one memory and one out buffer
+--   checks-run-unique              the check that a run begins with has one answer, and hands on one pair of sides
 use Prim.Native.Nat.{ℕ, _+_, _^_, _≤_}
 use mathlib.Core.Path.{_≡_, sym, ap, _∙_}
 use mathlib.Core.Bool.{false, cond}
@@ -15,6 +16,9 @@ use Rattle.kinds.specs.Answers.{onto}
 use Rattle.kinds.specs.Edition.{Edition}
 use Rattle.kinds.specs.Frame.{ticks}
 use Rattle.kinds.specs.First.{Reason}
+use Rattle.kinds.proofs.AnswerLaws.{said-same}
+use Rattle.maps.specs.declared.Opened.{Opened}
+use Rattle.maps.proofs.OpenLaws.{sides-unique}
 use Rattle.switches.specs.Cells.{M, N}
 use Rattle.switches.proofs.CellLaws.{cell-into}
 use Rattle.state.specs.States.{Possible}
@@ -25,7 +29,7 @@ use Rattle.call.specs.Tool.{rightTick, handedOut}
 use Rattle.call.specs.declared.Ticked.{Ticked}
 use Rattle.call.proofs.CallLaws.{call-given, call-idle, call-possible, call-filled}
 use Rattle.call.proofs.ToolLaws.{comes-unique}
-use Rattle.run.specs.Tool.{beforeFaults, sheetCall, Ticks}
+use Rattle.run.specs.Tool.{ChecksRun, beforeFaults, sheetCall, Ticks}
 use Rattle.run.proofs.TableLaws.{Sound, run-sound}
 
 module _ (e : Edition) (n k : ℕ) (s : List ℕ) (st : State) (ws : List ℕ) (m : Memory) (out : List ℕ) where
@@ -59,3 +63,9 @@ module _ (e : Edition) (n k : ℕ) (s : List ℕ) (st : State) (ws : List ℕ) (
 
   pub ticks-unique : (a b : Ticked) {v w : Memory} {l r : List ℕ} → Ticks e n k s st ws m out a v l → Ticks e n k s st ws m out b w r → (a ≡ b) × (v ≡ w) × (l ≡ r)
   ticks-unique a b x y = comes-unique x y
+
+pub checks-run-unique : {e : Edition} {n k : ℕ} {s : List ℕ} {st : State} {came out words marks : ℕ} (r q : Opened)
+    → ChecksRun e n k s st came out words marks r → ChecksRun e n k s st came out words marks q → r ≡ q
+checks-run-unique r q a b =
+    sides-unique r q (said-same (r .answer) (q .answer) (a .answer ∙ sym (b .answer)))
+    (λ d. (a .write d, a .read d)) (λ d. (b .write d, b .read d)) (a .refused) (b .refused)

@@ -1,6 +1,6 @@
 // The run: one tick of any sheet.
 ghost use Rattle.kinds.specs.Edition.{edition1};
-ghost use Rattle.run.specs.Tool.{Begins, Ticks};
+ghost use Rattle.run.specs.Tool.{ChecksRun, Ticks};
 use call::Ticked;
 use kinds::Answer;
 use kinds::Refusal;
@@ -49,7 +49,7 @@ pub fn tick(
     )
 }
 
-// What comes before the faults: 1, 2, 5 and 10, and both sides where none applies.
+// What comes before the faults: 1, 2, 5 and 10, and both sides, opened, where none applies.
 pub fn check(
     n: u32,
     k: u32,
@@ -60,7 +60,7 @@ pub fn check(
     words: usize,
     marks: usize,
 ) -> Opened
-    ensures { λ r. ⌜ Begins edition1 n k (now (sheet .entry)) state came out words marks r ⌝ }
+    ensures { λ r. ⌜ ChecksRun edition1 n k (now (sheet .entry)) state came out words marks r ⌝ }
 {
     let fits = call::lengths_fit(n, k, came, out, words, marks);
     let sides = maps::open(n, k, sheet, fits);
@@ -70,13 +70,7 @@ pub fn check(
         return sides;
     }
     if !state.possible(bits::two_to(n - k)) {
-        let write = sides.write;
-        let read = sides.read;
-        return Opened {
-            answer: Answer::Refused(Refusal::State),
-            write,
-            read,
-        };
+        return maps::refused(Refusal::State);
     }
     sides
 }

@@ -1,17 +1,19 @@
 -- How a call changes the state.
 --   read-more, read-idle   where a tick is read r grows by 1, and else it stays
+--   next-clock             the clock after a call is the one that the clock goes on to
 --   next-blank             a blank tick pauses the frame that comes in
 --   next-part              words that don't complete it are counted
 --   next-full              words that do start the next one, and the reader
 --   next-possible          the state after a possible one is possible
 use Prim.Native.Nat.{ℕ, _+_, _-_, _<_, _≤_}
-use mathlib.Core.Path.{_≡_}
+use mathlib.Core.Path.{_≡_, refl}
 use mathlib.Core.List.{List, [], _∷_}
 use mathlib.Core.Logic.{_≢_}
 use native.Mathlib.Decide.{ℕ-discrete, decLt}
 use native.Mathlib.Omega.{arith}
 use borrow.Author.Tests.{lt-ltb, le-ltb, eq-eqb, ne-eqb}
-use Rattle.state.specs.States.{Possible, afterRead, afterWrite, turned, next}
+use Rattle.state.specs.Clocks.{nextClock}
+use Rattle.state.specs.States.{clockOf, Possible, afterRead, came, afterWrite, turned, next}
 use Rattle.state.specs.declared.State.{State}
 
 module _ (T : ℕ) (st : State) where
@@ -20,6 +22,9 @@ module _ (T : ℕ) (st : State) where
 
   pub read-idle : T ≤ st .r → afterRead T st .r ≡ st .r
   read-idle idle = rw (le-ltb (st .r) T idle)
+
+  pub next-clock : (ws : List ℕ) → clockOf (next T st ws) ≡ nextClock T (clockOf st) (came ws)
+  next-clock ws = refl
 
   pub next-blank : st .a < T → next T st [] ≡ record { a = st .a; h = st .h; r = afterRead T st .r }
   next-blank part = rw (ne-eqb (st .a) T (omega arith))

@@ -16,7 +16,7 @@ use Rattle.sheet.specs.Layout.{Layable, InRange}
 use Rattle.sheet.proofs.LayLaws.{same-side}
 use Rattle.switches.specs.Cells.{tickToBank}
 use Rattle.switches.specs.Written.{keptStages}
-use Rattle.lay.specs.Staged.{staged, Shows}
+use Rattle.lay.specs.Staged.{staged, ShowsStages}
 use Rattle.lay.proofs.StagedLaws.{shown-part}
 use Rattle.plan.specs.Planned.{StagesInRange, readWith, mWith, writeWith}
 use Rattle.plan.specs.Inside.{bankThrough, Ordered}
@@ -77,7 +77,7 @@ module _ (c : tie.After-cells-of) where
     ap (λ r. length (r .banks)) (c .cells-of .ensures) ∙ padded-length arrayWidth (map (bankThrough k G) C) (omega (arith, length-map C (bankThrough k G), sound .order .count, narrow)),
   )
 
-  module _ (ss : List Stage) (shows : Shows (start .args .read) ss) (range : StagesInRange n k ss) where
+  module _ (ss : List Stage) (shows : ShowsStages (start .args .read) ss) (range : StagesInRange n k ss) where
     abbrev W : Side
     W = writeWith n k ss C
 

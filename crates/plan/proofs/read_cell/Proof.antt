@@ -14,8 +14,8 @@ after-stages-requires c κs = search needs
 
 returns : tie.Need-returns
 returns c =
-    let (tick, port) = c .before .slot-of .ensures in
-    (tick, c .after-stages .ensures ∙ ap₂ (afterStages (stagesFrom (c .before .before .before .args .stages .now))) tick port)
+    let (tick, port) = c .before .before .before .slot-of .ensures in
+    (tick, c .after-stages .ensures ∙ ap₂ (afterStages (stagesFrom (c .before .before .before .before .before .args .stages .now))) tick port)
 
 pub read-cell-spec : {M : Type 1} → statement M
 read-cell-spec = tie.close (tie.spec slot-of-requires after-stages-requires returns)

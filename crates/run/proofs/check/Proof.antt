@@ -1,6 +1,6 @@
 -- `run::check` meets its contract. Where the sheet is opened nothing is left but 10.
 use Prim.Native.Nat.{ℕ}
-use mathlib.Core.Path.{_≡_, sym, ap, _∙_}
+use mathlib.Core.Path.{_≡_, refl, sym, ap, _∙_}
 use mathlib.Core.Bool.{Bool}
 use mathlib.Core.List.{List, [], _∷_, _++_}
 use mathlib.Core.Option.{none}
@@ -13,20 +13,19 @@ use Rattle.kinds.specs.Frame.{ticks}
 use Rattle.kinds.specs.First.{Reason, firstOf}
 use Rattle.kinds.specs.Reasons.{RightLengths}
 use Rattle.kinds.specs.Refusal.{said}
-use Rattle.kinds.specs.declared.Answer.{Answer}
-use Rattle.kinds.specs.declared.Answer.the-variants.{Done, Refused}
+use Rattle.kinds.specs.declared.Answer.the-variants.{Done}
 use Rattle.kinds.specs.declared.Refusal.the-variants.{State as Impossible}
 use Rattle.kinds.proofs.TruthLaws.{denied}
 use Rattle.kinds.proofs.FirstLaws.{first-nil, first-take, first-skip, first-append, first-none}
-use Rattle.kinds.proofs.AnswerLaws.{said-same, said-before}
+use Rattle.kinds.proofs.AnswerLaws.{not-both, said-before}
 use Rattle.sheet.specs.Table.{sheetTable}
 use Rattle.sheet.proofs.TableLaws.{sheet-sound}
-use Rattle.maps.specs.Opened.{Opens}
+use Rattle.maps.specs.Opened.{unopened, Opens}
 use Rattle.maps.specs.declared.Opened.{Opened}
 use Rattle.state.specs.States.{Possible, impossible}
 use Rattle.state.specs.declared.State.{State}
 use Rattle.call.specs.Tool.{runLengths}
-use Rattle.run.specs.Tool.{Begins}
+use Rattle.run.specs.Tool.{ChecksRun}
 use Rattle.run.proofs.check.Statement.{statement}
 use Rattle.run.proofs.check.Tie as tie
 
@@ -41,17 +40,11 @@ module _ (n k : ℕ) (s : List ℕ) (st : State) (came out words marks : ℕ) (f
   given : said (o .answer) ≡ firstOf table
   given = opens .answer lengths right
 
-  begins : (r : Answer) → said r ≡ firstOf (table ++ impossible (ticks n k) st ∷ [])
-      → Begins edition1 n k s st came out words marks (record { answer = r; write = o .write; read = o .read })
-  begins r answer = record {
-    answer = answer;
-    write = λ e. opens .write (said-same (o .answer) Done (given ∙ e));
-    read = λ e. opens .read (said-same (o .answer) Done (given ∙ e));
-    shut = λ x e. opens .refused x (said-same (o .answer) (Refused x) (given ∙ e));
-  }
+  opened : said (o .answer) ≡ firstOf (table ++ impossible (ticks n k) st ∷ []) → ChecksRun edition1 n k s st came out words marks o
+  opened answer = record { answer = answer; write = opens .write; read = opens .read; refused = opens .refused }
 
-  begins-refused : ¬ (o .answer ≡ Done) → Begins edition1 n k s st came out words marks o
-  begins-refused refuses = begins (o .answer) (said-before table _ (o .answer) refuses given)
+  checks-refused : ¬ (o .answer ≡ Done) → ChecksRun edition1 n k s st came out words marks o
+  checks-refused refuses = opened (said-before table _ (o .answer) refuses given)
 
   module _ (done : o .answer ≡ Done) where
     none-given : firstOf table ≡ none
@@ -63,11 +56,17 @@ module _ (n k : ℕ) (s : List ℕ) (st : State) (came out words marks : ℕ) (f
     left : firstOf (table ++ impossible (ticks n k) st ∷ []) ≡ firstOf (impossible (ticks n k) st ∷ [])
     left = first-append table _ (first-none table .0 none-given)
 
-    begins-impossible : ¬ Possible (ticks n k) st → Begins edition1 n k s st came out words marks (record { answer = Refused Impossible; write = o .write; read = o .read })
-    begins-impossible not = begins (Refused Impossible) (sym (left ∙ first-take _ _ not))
+    checks-impossible : {r : Opened} → ¬ Possible (ticks n k) st → r ≡ unopened Impossible → ChecksRun edition1 n k s st came out words marks r
+    checks-impossible not e =
+        rw e (record {
+          answer = sym (left ∙ first-take _ _ not);
+          write = λ d. not-both d refl;
+          read = λ d. not-both d refl;
+          refused = λ x f. (refl, refl);
+        })
 
-    begins-done : Possible (ticks n k) st → Begins edition1 n k s st came out words marks o
-    begins-done possible = begins (o .answer) (ap said done ∙ sym (left ∙ first-skip _ _ (λ not. not possible) ∙ first-nil))
+    checks-done : Possible (ticks n k) st → ChecksRun edition1 n k s st came out words marks o
+    checks-done possible = opened (ap said done ∙ sym (left ∙ first-skip _ _ (λ not. not possible) ∙ first-nil))
 
 lengths-fit-requires : tie.Need-lengths-fit-requires
 lengths-fit-requires c κs = search needs
@@ -86,7 +85,7 @@ returns : tie.Need-returns
 returns c =
     let opened = c .before .before in
     let args = start opened .args in
-    begins-refused (args .n) (args .k) (args .sheet .now) (args .state) (args .came) (args .out) (args .words) (args .marks) _ (opened .«open» .result)
+    checks-refused (args .n) (args .k) (args .sheet .now) (args .state) (args .came) (args .out) (args .words) (args .marks) _ (opened .«open» .result)
     (opened .before .lengths-fit .ensures) (opened .«open» .ensures) (denied (c .before .is-done .ensures) (not-true _ (c .if1 .taken)))
 
 module _ (c : tie.Else1) where
@@ -115,15 +114,18 @@ module _ (c : tie.After-two-to) where
   frame-ticks : c .two-to .result ≡ ticks (start (at (c .before)) .args .n) (start (at (c .before)) .args .k)
   frame-ticks = c .two-to .ensures .fits (omega (arith, sizes (c .before) .frame .most))
 
+refused-requires : tie.Need-refused-requires
+refused-requires c κs = search needs
+
 returns-2 : tie.Need-returns-2
 returns-2 c =
-    let tested = c .before .before .before in
+    let tested = c .before .before in
     let passed = tested .before .before in
     let opened = at passed in
     let args = start opened .args in
-    begins-impossible (args .n) (args .k) (args .sheet .now) (args .state) (args .came) (args .out) (args .words) (args .marks) _ (opened .«open» .result)
+    checks-impossible (args .n) (args .k) (args .sheet .now) (args .state) (args .came) (args .out) (args .words) (args .marks) _ (opened .«open» .result)
     (opened .before .lengths-fit .ensures) (opened .«open» .ensures) (done passed)
-    (rw (frame-ticks (tested .before)) at (denied (tested .possible .ensures) (not-true _ (c .before .before .if2 .taken))))
+    (rw (frame-ticks (tested .before)) at (denied (tested .possible .ensures) (not-true _ (c .before .if2 .taken)))) (c .refused .ensures)
 
 returns-3 : tie.Need-returns-3
 returns-3 c =
@@ -131,7 +133,7 @@ returns-3 c =
     let passed = tested .before .before in
     let opened = at passed in
     let args = start opened .args in
-    begins-done (args .n) (args .k) (args .sheet .now) (args .state) (args .came) (args .out) (args .words) (args .marks) _ (opened .«open» .result)
+    checks-done (args .n) (args .k) (args .sheet .now) (args .state) (args .came) (args .out) (args .words) (args .marks) _ (opened .«open» .result)
     (opened .before .lengths-fit .ensures) (opened .«open» .ensures) (done passed)
     (rw (frame-ticks (tested .before)) at (tested .possible .ensures .0 (not-false _ (c .if2 .left))))
 
@@ -146,5 +148,6 @@ check-spec =
     sub-two-to
     two-to-requires
     possible-requires
+    refused-requires
     returns-2
     returns-3)

@@ -17,22 +17,22 @@ use Rattle.memory.specs.Memory.{Memory}
 use Rattle.call.specs.Tool.{Calls}
 use Rattle.call.specs.declared.Ticked.{Ticked}
 use Rattle.call.proofs.ToolLaws.{comes-past, comes-checked}
-use Rattle.run.specs.Tool.{beforeFaults, Begins, Ticks}
+use Rattle.run.specs.Tool.{beforeFaults, ChecksRun, Ticks}
 use Rattle.run.proofs.TableLaws.{check-sound}
 use Rattle.run.proofs.tick.Statement.{statement}
 use Rattle.run.proofs.tick.Tie as tie
 
 module _ (n k : ℕ) (s : List ℕ) (st : State) (ws : List ℕ) (m : Memory) (out : List ℕ) (r : Opened)
-    (begins : Begins edition1 n k s st (length ws) (length out) (length (m .words)) (length (m .marks)) r) (done : r .answer ≡ Answer.Done) where
+    (checks : ChecksRun edition1 n k s st (length ws) (length out) (length (m .words)) (length (m .marks)) r) (done : r .answer ≡ Answer.Done) where
   none-given : firstOf (beforeFaults edition1 n k s st ws m out) ≡ none
-  none-given = sym (begins .answer) ∙ ap said done
+  none-given = sym (checks .answer) ∙ ap said done
 
   ticks-by : {a : Ticked} {words marks out' : List ℕ} → Calls edition1 n k (r .write) (r .read) st ws m out a (record { words = words; marks = marks }) out'
       → Ticks edition1 n k s st ws m out a (record { words = words; marks = marks }) out'
   ticks-by calls =
-      let (opened, sound) = check-sound edition1 n k s st (length ws) (length out) (length (m .words)) (length (m .marks)) none-given in
+      let (_, sound) = check-sound edition1 n k s st (length ws) (length out) (length (m .words)) (length (m .marks)) none-given in
       comes-past (beforeFaults edition1 n k s st ws m out) n k (M edition1 n k s) (N edition1 n k s) st ws m out _ none-given sound
-      (calls (writeSide edition1 n k s) (readSide edition1 n k s) (begins .write opened) (begins .read opened))
+      (calls (writeSide edition1 n k s) (readSide edition1 n k s) (checks .write done) (checks .read done))
 
 module _ (c : tie.After-check) where
   abbrev start : tie.Start

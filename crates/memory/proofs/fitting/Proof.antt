@@ -1,9 +1,9 @@
--- `memory::right_lengths` meets its contract.
+-- `memory::fitting` meets its contract.
 use borrow.Author.Tests.{leb-true, le-leb}
 use native.Mathlib.Omega.{arith}
 use Rattle.kinds.proofs.TruthLaws.{says-no}
-use Rattle.memory.proofs.right_lengths.Statement.{statement}
-use Rattle.memory.proofs.right_lengths.Tie as tie
+use Rattle.memory.proofs.fitting.Statement.{statement}
+use Rattle.memory.proofs.fitting.Tie as tie
 
 returns : tie.Need-returns
 returns c = says-no (λ fit. c .if1 .taken (fit .a-word-each))
@@ -11,5 +11,5 @@ returns c = says-no (λ fit. c .if1 .taken (fit .a-word-each))
 returns-2 : tie.Need-returns-2
 returns-2 c = (λ e. record { a-word-each = omega arith; room = leb-true _ _ e }, λ fit. le-leb _ _ (fit .room))
 
-pub right-lengths-spec : {M : Type 1} → statement M
-right-lengths-spec = tie.close (tie.spec returns returns-2)
+pub fitting-spec : {M : Type 1} → statement M
+fitting-spec = tie.close (tie.spec returns returns-2)

@@ -6,7 +6,7 @@ use Rattle.memory.proofs.fitting.Statement.{statement}
 use Rattle.memory.proofs.fitting.Tie as tie
 
 returns : tie.Need-returns
-returns c = says-no (λ fit. c .if1 .taken (fit .a-word-each))
+returns c = says-no (λ fit. omega (arith, fit .a-word-each))
 
 returns-2 : tie.Need-returns-2
 returns-2 c = (λ e. record { a-word-each = omega arith; room = leb-true _ _ e }, λ fit. le-leb _ _ (fit .room))

@@ -2,7 +2,6 @@
 use Prim.Native.Nat.{ℕ, _≤_}
 use mathlib.Core.Path.{sym, _∙_}
 use mathlib.Core.List.{List}
-use borrow.Author.Needs.{needs}
 use lib.ListN.{length}
 use lib.Pow.{pow-mono}
 use native.Mathlib.Decide.{decLe}

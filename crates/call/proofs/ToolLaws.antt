@@ -7,6 +7,10 @@
 --   call-sound        none of 1, 2 and 10 applies exactly when that is so
 --   serving-refuses, serving-does      where that is so, what serving the cells that a call writes and reads answers and leaves is what comes of the call
 --   comes-unique      a call has one answer, and leaves one memory and one out buffer
+--   calls-checked     how a refusal of 1, 2 or 10, that a check gives, meets the tool's promise
+--   calls-past        how an answer does where none of them applies
+--   calls-unique      for sides that are shown the tool has one answer
+--   before-unique     and so it has where 1, 2 or 10 applies, whatever the sides are
 use Prim.Native.Nat.{ℕ, zero, suc, _^_, _≤_}
 use mathlib.Core.Path.{_≡_, refl, sym, ap, _∙_}
 use mathlib.Core.Bool.{Bool, false}
@@ -27,13 +31,17 @@ use Rattle.kinds.specs.declared.Answer.the-variants as Answer
 use Rattle.kinds.specs.declared.Refusal.{Refusal}
 use Rattle.kinds.proofs.TruthLaws.{stable}
 use Rattle.kinds.proofs.FirstLaws.{none-some, first-before, first-skip, first-append, first-none}
+use Rattle.sheet.specs.Sheet.{Side}
+use Rattle.switches.specs.Cells.{cellOf}
+use Rattle.maps.specs.Opened.{Shows}
+use Rattle.maps.specs.declared.OpenSide.{OpenSide}
 use Rattle.state.specs.States.{Possible, possible?, reading, next}
 use Rattle.state.specs.declared.State.{State}
 use Rattle.faults.specs.Faults.{faults}
 use Rattle.memory.specs.Memory.{Memory, Access, wordsAt, served}
 use Rattle.memory.specs.Serving.{serveTable, Serves}
 use Rattle.call.specs.Call.{readsOf, writesOf, accessOf, Outcome, call}
-use Rattle.call.specs.Tool.{rightTick, runLengths, callTable, refusalOf, stateAfter, handedOut, ComesOf}
+use Rattle.call.specs.Tool.{rightTick, runLengths, callTable, refusalOf, stateAfter, handedOut, ComesOf, Calls}
 use Rattle.call.specs.declared.Ticked.{Ticked}
 use Rattle.call.specs.declared.Ticked.the-variants.{Done, Refused}
 use Rattle.call.proofs.PlaceLaws.{reads-few, writes-length}
@@ -76,6 +84,28 @@ comes-unique {st = st} {a = a} {b = b} x y = (
   x .memory ∙ sym (y .memory),
   x .buffer ∙ sym (y .buffer),
 )
+
+module _ (e : Edition) (n k : ℕ) (w r : OpenSide) (st : State) (ws : List ℕ) (m : Memory) (out : List ℕ) where
+  abbrev table : List Reason
+  table = callTable e n k st (length ws) (length out) (length (m .words)) (length (m .marks))
+
+  pub calls-checked : (c : Answer) {x : Refusal} → said c ≡ firstOf table → c ≡ Answer.Refused x → Calls e n k w r st ws m out (Refused x) m out
+  calls-checked c given is = record {
+    before = λ y applies. record { refusal = sym (ap said is) ∙ given ∙ applies; state = refl; handed = refl; memory = refl; buffer = refl };
+    over = λ W R _ _. comes-checked table n k (cellOf k W) (cellOf k R) st ws m out c given is;
+  }
+
+  module _ {a : Ticked} {v : Memory} {l : List ℕ} where
+    pub calls-past : firstOf table ≡ none
+        → ((W R : Side) → Shows n k w W → Shows n k r R → ComesOf (call table n k (cellOf k W) (cellOf k R) st ws m) st out a v l) → Calls e n k w r st ws m out a v l
+    calls-past given over = record { before = λ x applies. none-some (sym given ∙ applies); over = over }
+
+    module _ {b : Ticked} {u : Memory} {o : List ℕ} (x : Calls e n k w r st ws m out a v l) (y : Calls e n k w r st ws m out b u o) where
+      pub calls-unique : {W R : Side} → Shows n k w W → Shows n k r R → (a ≡ b) × (v ≡ u) × (l ≡ o)
+      calls-unique write read = comes-unique (x .over _ _ write read) (y .over _ _ write read)
+
+      pub before-unique : {z : Refusal} → firstOf table ≡ some z → (a ≡ b) × (v ≡ u) × (l ≡ o)
+      before-unique applies = comes-unique (x .before _ applies) (y .before _ applies)
 
 module _ (e : Edition) (n k : ℕ) (st : State) (came out words marks : ℕ) where
   pub record SoundCall : Type 0 where

@@ -6,7 +6,8 @@
 --   stateAfter st a            the state after a call that was answered a: on a refusal it stays as it came
 --   handedOut a                whether a says that a tick was handed out
 --   ComesOf o st out a m' out'               the answer a, and the memory m' and the out buffer out' afterwards, are what comes of a call; st and out are the state and the buffer before
---   Calls e n k w r st ws m out a m' out'    the tool: they are what comes of a call over the cells of whichever sides w and r show
+--   Calls e n k w r st ws m out a m' out'    the tool: where 1, 2 or 10 applies they are what comes of that refusal, whatever w and r are; and they are what comes of a call over the cells of
+--                                          whichever sides w and r show
 use Prim.Native.Nat.{ℕ, zero, suc, _+_, _^_}
 use mathlib.Core.Path.{_≡_}
 use mathlib.Core.Bool.{Bool, false}
@@ -16,7 +17,7 @@ use lib.ListN.{length}
 use Rattle.kinds.specs.Answers.{onto}
 use Rattle.kinds.specs.Edition.{Edition, sized?}
 use Rattle.kinds.specs.Frame.{ticks}
-use Rattle.kinds.specs.First.{Reason}
+use Rattle.kinds.specs.First.{Reason, firstOf}
 use Rattle.kinds.specs.Reasons.{outside, wrongLength}
 use Rattle.kinds.specs.declared.Refusal.{Refusal}
 use Rattle.sheet.specs.Sheet.{Side}
@@ -26,7 +27,7 @@ use Rattle.maps.specs.declared.OpenSide.{OpenSide}
 use Rattle.state.specs.States.{impossible}
 use Rattle.state.specs.declared.State.{State}
 use Rattle.memory.specs.Memory.{Memory}
-use Rattle.call.specs.Call.{Outcome, call}
+use Rattle.call.specs.Call.{Outcome, refused, call}
 use Rattle.call.specs.declared.Ticked.{Ticked}
 use Rattle.call.specs.declared.Ticked.the-variants.{Done, Refused}
 
@@ -59,7 +60,7 @@ pub record ComesOf (o : Outcome) (st : State) (out : List ℕ) (a : Ticked) (m' 
   pub memory : m' ≡ o .memory
   pub buffer : out' ≡ onto (o .leaving) out
 
-abbrev pub Calls : Edition → ℕ → ℕ → OpenSide → OpenSide → State → List ℕ → Memory → List ℕ → Ticked → Memory → List ℕ → Type 0
-Calls e n k w r st ws m out a m' out' =
-    (W R : Side) → Shows n k w W → Shows n k r R
-    → ComesOf (call (callTable e n k st (length ws) (length out) (length (m .words)) (length (m .marks))) n k (cellOf k W) (cellOf k R) st ws m) st out a m' out'
+pub record Calls (e : Edition) (n k : ℕ) (w r : OpenSide) (st : State) (ws : List ℕ) (m : Memory) (out : List ℕ) (a : Ticked) (m' : Memory) (out' : List ℕ) : Type 0 where
+  pub before : (x : Refusal) → firstOf (callTable e n k st (length ws) (length out) (length (m .words)) (length (m .marks))) ≡ some x → ComesOf (refused x st m) st out a m' out'
+  pub over : (W R : Side) → Shows n k w W → Shows n k r R
+      → ComesOf (call (callTable e n k st (length ws) (length out) (length (m .words)) (length (m .marks))) n k (cellOf k W) (cellOf k R) st ws m) st out a m' out'

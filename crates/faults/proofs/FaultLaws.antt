@@ -8,18 +8,22 @@
 --   first-pair-named       and its ports are those that a refusal names
 --   pair-nowhere           the first pair is nowhere exactly when there is no clash
 --   pair-between           it is between two ports exactly when they are the first such pair
+--   ports-none, ports-two  so it gives no ports, or the numbers of those two
+--   pair-counted           where there are no more cells than ports have numbers, it is what `first_pair` answers
 use Prim.Native.Nat.{ℕ, _<_, _≤_}
 use mathlib.Core.Path.{_≡_, refl, sym, ap}
-use mathlib.Core.List.{List}
+use mathlib.Core.List.{List, [], _∷_}
 use mathlib.Core.Logic.{_≢_, _↔_}
+use native.Mathlib.Decide.{decLe}
 use native.Mathlib.Omega.{arith}
 use lib.ListN.{length, getD}
+use Rattle.kinds.specs.Decided.{ifHolds}
 use Rattle.kinds.specs.Frame.{bankOf}
 use Rattle.kinds.specs.Search.{someBelow, found}
 use Rattle.kinds.specs.declared.Port.{Port}
+use Rattle.kinds.proofs.TruthLaws.{holds-yes}
 use Rattle.kinds.proofs.SearchLaws.{found-has, found-first, found-least}
-use Rattle.faults.specs.Faults.{WantOneBank, wantOneBank?, laterPort?, Clash, clash?, firstPort, secondPort}
-use Rattle.faults.specs.Inside.{pairFrom, firstPair}
+use Rattle.faults.specs.Faults.{WantOneBank, wantOneBank?, laterPort?, Clash, clash?, firstPort, secondPort, pairFrom, firstPair, portsOf, mostCells}
 use Rattle.faults.specs.declared.Pair.the-variants.{Nowhere, Between}
 
 pub record LowestPair (k : ℕ) (cs : List ℕ) (p q : ℕ) : Type 0 where
@@ -85,3 +89,12 @@ module _ (k : ℕ) (cs : List ℕ) where
 
     pub pair-between : firstPair k cs ≡ Between p q ↔ LowestPair k cs (p .0) (q .0)
     pair-between = between (clash? k cs)
+
+  pub ports-none : ¬ Clash k cs → portsOf (firstPair k cs) ≡ []
+  ports-none apart = ap portsOf (pair-nowhere .1 apart)
+
+  pub ports-two : {p q : ℕ} → LowestPair k cs p q → portsOf (firstPair k cs) ≡ p ∷ q ∷ []
+  ports-two pair = ap portsOf (pair-between _ _ .1 pair)
+
+  pub pair-counted : length cs ≤ mostCells → ifHolds (decLe (length cs) mostCells) (firstPair k cs) Nowhere ≡ firstPair k cs
+  pair-counted = holds-yes (decLe (length cs) mostCells) _ _

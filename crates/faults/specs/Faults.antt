@@ -6,6 +6,9 @@
 --   laterPort? k cs p           whether port p has one: a search from port 0 up
 --   clash? k cs                 whether some port has: a search from port 0 up
 --   firstPort k cs, secondPort k cs      "the first such pair, lowest port first": smallest first port, then smallest second
+--   pairFrom k cs d             that pair, where d decides whether there is one
+--   firstPair k cs              that pair, or nowhere
+--   portsOf x                   its two ports, by number, the first one first; none where it is nowhere
 --   clash F k cs                11 and 13: two written, or two read, words want one bank; F is the refusal that names the pair
 --   SomeFilled l cs             some cell of cs is filled, where l is the marks
 --   SomeEmpty l cs              some cell of cs is empty
@@ -33,6 +36,8 @@ use Rattle.kinds.specs.First.{Reason, unless}
 use Rattle.kinds.specs.declared.Port.{Port}
 use Rattle.kinds.specs.declared.Refusal.{Refusal}
 use Rattle.kinds.specs.declared.Refusal.the-variants.{Length, WriteClash, Overwrite, ReadClash, EmptyRead}
+use Rattle.faults.specs.declared.Pair.{Pair}
+use Rattle.faults.specs.declared.Pair.the-variants.{Nowhere, Between}
 use Rattle.faults.specs.Marks.{Filled, filled?, marked}
 
 abbrev pub WantOneBank : ℕ → List ℕ → ℕ → ℕ → Type 0
@@ -58,6 +63,17 @@ firstPort k cs = found (clash? k cs)
 
 abbrev pub secondPort : ℕ → List ℕ → ℕ
 secondPort k cs = found (laterPort? k cs (firstPort k cs))
+
+abbrev pub pairFrom : (k : ℕ) (cs : List ℕ) → Dec (Clash k cs) → Pair
+pairFrom k cs (yes c) = Between (record { 0 = firstPort k cs }) (record { 0 = secondPort k cs })
+pairFrom k cs (no n) = Nowhere
+
+abbrev pub firstPair : ℕ → List ℕ → Pair
+firstPair k cs = pairFrom k cs (clash? k cs)
+
+abbrev pub portsOf : Pair → List ℕ
+portsOf Nowhere = []
+portsOf (Between p q) = p .0 ∷ q .0 ∷ []
 
 abbrev pub clash : (Port → Port → Refusal) → ℕ → List ℕ → Reason
 clash F k cs = record { refusal = F (record { 0 = firstPort k cs }) (record { 0 = secondPort k cs }); applies = Clash k cs; decided = clash? k cs }

@@ -2,13 +2,16 @@
 ghost use mathlib.Core.Path.{_≡_};
 ghost use mathlib.Core.Bool.{cond};
 ghost use Prim.Native.Nat.{_^_, _≤_};
+ghost use native.Mathlib.Decide.{decLe};
 ghost use lib.ListN.{length};
 ghost use Rattle.kinds.specs.Answers.{Says};
+ghost use Rattle.kinds.specs.Decided.{ifHolds};
 ghost use Rattle.kinds.specs.First.{firstOf};
 ghost use Rattle.kinds.specs.Refusal.{said};
 ghost use Rattle.faults.specs.Marks.{Filled, marked};
-ghost use Rattle.faults.specs.Faults.{Clash, mostCells, SomeMarked, faultTable};
-ghost use Rattle.faults.specs.Inside.{mostBanks, firstPair, BankBits};
+ghost use Rattle.faults.specs.Faults.{Clash, firstPair, mostCells, SomeMarked, faultTable};
+ghost use Rattle.faults.specs.Inside.{mostBanks, BankBits};
+ghost use Rattle.faults.specs.declared.Pair.the-variants.{Nowhere};
 use kinds::Answer;
 use kinds::Bank;
 use kinds::Port;
@@ -60,16 +63,18 @@ fn cells_freed(after: bool, reads: usize) -> usize
 }
 
 // The first two ports whose cells are of one bank.
-enum Pair {
+pub enum Pair {
     Nowhere,
     Between(Port, Port),
 }
 
-// Where the banks are few one pass says whether there is a pair, and it is searched for only where there is one.
-fn first_pair(k: u32, cells: &[u32]) -> Pair
-    requires { ⌜ length (now cells) ≤ mostCells ⌝ }
-    ensures { λ r. ⌜ r ≡ firstPair k (now (cells .entry)) ⌝ }
+// Where the banks are few one pass says whether there is a pair, and it is searched for only where there is one. Nowhere where there are more cells than ports have numbers.
+pub fn first_pair(k: u32, cells: &[u32]) -> Pair
+    ensures { λ r. ⌜ r ≡ ifHolds (decLe (length (now (cells .entry))) mostCells) (firstPair k (now (cells .entry))) Nowhere ⌝ }
 {
+    if CELLS < cells.len() {
+        return Pair::Nowhere;
+    }
     if SMALL < k {
         return find_pair(k, cells);
     }

@@ -11,7 +11,8 @@ use kinds::Answer;
 use kinds::Refusal;
 
 // The core of a call: which cells are written with which words, and which are read. Everything is looked at before anything is changed. 2 unless there is a word for each cell that is
-// written, and a place in `out` for each that is read; then 11 to 14, 12 judged on the marks as they came or, where `after` says so, after the read.
+// written, and a place in `out` for each that is read, and 2 where there are more cells than ports have numbers; then 11 to 14, 12 judged on the marks as they came or, where `after`
+// says so, after the read.
 pub fn serve(
     after: bool,
     k: u32,
@@ -26,7 +27,7 @@ pub fn serve(
         (record { words = now (words .entry); marks = now (marks .entry) }) (now (out .entry)) r
         (record { words = now (words .exit); marks = now (marks .exit) }) (now (out .exit)) ⌝ }
 {
-    if !right_lengths(writes.len(), came.len(), reads.len(), out.len()) {
+    if !fitting(writes.len(), came.len(), reads.len(), out.len()) {
         return Answer::Refused(Refusal::Length);
     }
     let answer = faults::first_fault(after, k, writes, reads, marks);
@@ -39,7 +40,7 @@ pub fn serve(
     answer
 }
 
-fn right_lengths(writes: usize, came: usize, reads: usize, out: usize) -> bool
+fn fitting(writes: usize, came: usize, reads: usize, out: usize) -> bool
     ensures { λ r. ⌜ Says r (Fitting writes came reads out) ⌝ }
 {
     if came != writes {

@@ -3,6 +3,7 @@ use Prim.Native.Nat.{ℕ, zero, suc, _-_, _*_, _^_, _≤_, _<_}
 use mathlib.Core.Path.{_≡_, sym, ap, ap₂, _∙_}
 use mathlib.Core.Bool.{false, cond}
 use mathlib.Core.List.{List, _++_}
+use mathlib.Core.Option.{none}
 use borrow.Author.Needs.{needs}
 use native.Mathlib.Nat.{mul-le-mul}
 use native.Mathlib.Omega.{arith}
@@ -11,6 +12,7 @@ use lib.Pow.{pow-mono}
 use Rattle.kinds.specs.Decided.{ifHolds}
 use Rattle.kinds.specs.Edition.{edition1}
 use Rattle.kinds.specs.Frame.{ticks}
+use Rattle.kinds.specs.First.{firstOf}
 use Rattle.kinds.specs.Refusal.{said}
 use Rattle.kinds.proofs.TruthLaws.{holds-yes}
 use Rattle.kinds.proofs.PartLaws.{part-length, part-back}
@@ -25,7 +27,7 @@ use Rattle.call.specs.Call.{readsOf, writesOf, accessOf}
 use Rattle.call.specs.Tool.{rightTick, callTable}
 use Rattle.call.specs.Inside.{mostPorts}
 use Rattle.call.proofs.PlaceLaws.{reads-length, reads-few, are-places, are-writes, are-reads}
-use Rattle.call.proofs.ToolLaws.{comes-checked, SoundCall, call-sound, serving-refuses, serving-does}
+use Rattle.call.proofs.ToolLaws.{calls-checked, calls-past, SoundCall, call-sound, serving-refuses, serving-does}
 use Rattle.call.proofs.call.Statement.{statement}
 use Rattle.call.proofs.call.Tie as tie
 
@@ -59,8 +61,11 @@ module _ (c : tie.After-enum-told) where
   abbrev out : List ℕ
   out = start .args .out .now
 
+  none-given : firstOf (callTable edition1 n k st (length ws) (length out) (length (m .words)) (length (m .marks))) ≡ none
+  none-given = sym (c .before .before .check .ensures) ∙ ap said (c .enum-told .given .1)
+
   sound : SoundCall edition1 n k st (length ws) (length out) (length (m .words)) (length (m .marks))
-  sound = call-sound edition1 n k st _ _ _ _ .0 (sym (c .before .before .check .ensures) ∙ ap said (c .enum-told .given .1))
+  sound = call-sound edition1 n k st _ _ _ _ .0 none-given
 
   few : n ≤ 10
   few = sound .sized .frame .most
@@ -91,13 +96,11 @@ enum-known-checked : tie.Need-enum-known-checked
 enum-known-checked c = search needs
 
 returns : tie.Need-returns
-returns c W R write-shows read-shows =
+returns c =
     let checked = c .before .before .before in
     let args = checked .before .before .before .before .before .args in
-    let ws = args .came .now in
     let m : Memory = record { words = args .words .now; marks = args .marks .now } in
-    comes-checked (callTable edition1 (args .n) (args .k) (args .state) (length ws) (length (args .out .now)) (length (m .words)) (length (m .marks)))
-    (args .n) (args .k) (cellOf (args .k) W) (cellOf (args .k) R) (args .state) ws m (args .out .now) (checked .check .result) (checked .check .ensures) (c .before .checked .given .1)
+    calls-checked edition1 (args .n) (args .k) (args .write) (args .read) (args .state) (args .came .now) m (args .out .now) (checked .check .result) (checked .check .ensures) (c .before .checked .given .1)
 
 enum-told : tie.Need-enum-told
 enum-told c = search needs
@@ -264,11 +267,14 @@ same-length-3 : tie.Need-same-length-3
 same-length-3 c = search needs
 
 returns-2 : tie.Need-returns-2
-returns-2 c W R write-shows read-shows =
+returns-2 c =
     let served = c .before .before .before .before .before .before .before .before .before in
     let it = now-at served in
+    let args = start it .args in
+    calls-past edition1 (n it) (k it) (args .write) (args .read) (st it) (ws it) (m it) (out it) (none-given it)
+    (λ W R write-shows read-shows.
     serving-refuses (n it) (k it) (cellOf (k it) W) (cellOf (k it) R) (st it) (ws it) (m it) (out it) (sound it) (served .serve .result) (serves served W R write-shows read-shows)
-    (ap said (c .before .answer .given .1))
+    (ap said (c .before .answer .given .1)))
 
 enum-told-2 : tie.Need-enum-told-2
 enum-told-2 c = search needs
@@ -290,13 +296,16 @@ goes-on : {T : ℕ} (U : ℕ) (st : State) (ws : List ℕ) {x : State} → T ≡
 goes-on U st ws same ok e = rw same at e ∙ holds-yes (possible? U st) _ _ ok
 
 returns-3 : tie.Need-returns-3
-returns-3 c W R write-shows read-shows =
+returns-3 c =
     let served = c .before .before .before .before .before .before .before .before .before in
     let it = now-at served in
     let frame = frame-ticks (halved (at (back served))) in
+    let args = start it .args in
+    calls-past edition1 (n it) (k it) (args .write) (args .read) (st it) (ws it) (m it) (out it) (none-given it)
+    (λ W R write-shows read-shows.
     serving-does (n it) (k it) (cellOf (k it) W) (cellOf (k it) R) (st it) (ws it) (m it) (out it) (sound it) (served .serve .result) (serves served W R write-shows read-shows)
     (ap said (c .before .enum-told2 .given .1)) (goes-on (ticks (n it) (k it)) (st it) (ws it) frame (sound it .possible) (c .next .ensures))
-    (ap (λ (T : ℕ). reading T (st it)) frame)
+    (ap (λ (T : ℕ). reading T (st it)) frame))
 
 pub call-spec : {M : Type 1} → statement M
 call-spec =

@@ -10,8 +10,7 @@ use borrow.Author.Needs.{needs}
 use lib.Bits.{bitAnd}
 use lib.ListN.{length, getD}
 use Rattle.kinds.specs.Frame.{bankOf}
-use Rattle.faults.specs.Faults.{WantOneBank, LaterPort}
-use Rattle.faults.specs.Inside.{firstPair}
+use Rattle.faults.specs.Faults.{WantOneBank, LaterPort, firstPair}
 use Rattle.faults.specs.declared.Pair.{Pair}
 use Rattle.faults.specs.declared.Pair.the-variants.{Nowhere, Between}
 use Rattle.faults.proofs.FaultLaws.{pair-nowhere, pair-between}

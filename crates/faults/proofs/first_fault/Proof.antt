@@ -17,11 +17,10 @@ use Rattle.kinds.specs.declared.Refusal.the-variants.{WriteClash, ReadClash}
 use Rattle.kinds.proofs.TruthLaws.{says-no, says-yes, denied}
 use Rattle.kinds.proofs.FirstLaws.{first-nil, first-take, first-skip}
 use Rattle.faults.specs.Marks.{marked}
-use Rattle.faults.specs.Faults.{SomeMarked, clash, overwrite, emptyRead, faults, judgedOn, faultTable}
-use Rattle.faults.specs.Inside.{firstPair}
+use Rattle.faults.specs.Faults.{SomeMarked, firstPair, clash, overwrite, emptyRead, faults, judgedOn, mostCells, faultTable}
 use Rattle.faults.specs.declared.Pair.the-variants.{Between}
 use Rattle.faults.proofs.MarkLaws.{put-nil}
-use Rattle.faults.proofs.FaultLaws.{pair-clash, first-pair-named, pair-nowhere, pair-between}
+use Rattle.faults.proofs.FaultLaws.{pair-clash, first-pair-named, pair-nowhere, pair-between, pair-counted}
 use Rattle.faults.proofs.first_fault.Statement.{statement}
 use Rattle.faults.proofs.first_fault.Tie as tie
 
@@ -79,11 +78,17 @@ module _ (c : tie.Else2) where
   abbrev begin : tie.Start
   begin = c .before .before .before .before .before
 
+  writes-few : length (writes begin) ≤ mostCells
+  writes-few = omega (arith, c .before .if1 .left)
+
+  reads-few : length (reads begin) ≤ mostCells
+  reads-few = omega (arith, c .if2 .left)
+
   past-2 : Left begin (faults (k begin) (writes begin) (reads begin) (on begin) (marks begin))
-  past-2 = first-skip _ _ (λ many. many (record { written = omega (arith, c .before .if1 .left); read = omega (arith, c .if2 .left) }))
+  past-2 = first-skip _ _ (λ many. many (record { written = writes-few; read = reads-few }))
 
 first-pair-requires : tie.Need-first-pair-requires
-first-pair-requires c κs = omega (arith, c .before .if1 .left)
+first-pair-requires c κs = search needs
 
 enum-known-write-pair : tie.Need-enum-known-write-pair
 enum-known-write-pair c = search needs
@@ -92,7 +97,7 @@ returns-3 : tie.Need-returns-3
 returns-3 c =
     let called = c .before .before .before in
     let start = begin (called .before) in
-    sym (past-2 (called .before) ∙ clash-given WriteClash (k start) (writes start) _ (sym (called .first-pair .ensures) ∙ c .before .write-pair .given .1))
+    sym (past-2 (called .before) ∙ clash-given WriteClash (k start) (writes start) _ (sym (called .first-pair .ensures ∙ pair-counted (k start) (writes start) (writes-few (called .before))) ∙ c .before .write-pair .given .1))
 
 enum-told : tie.Need-enum-told
 enum-told c = search needs
@@ -104,8 +109,10 @@ module _ (c : tie.After-enum-told) where
 
   past-11 : Left start (from12 start)
   past-11 =
-      past-2 (c .before .before .before)
-      ∙ first-skip _ _ (pair-nowhere (k start) (writes start) .0 (sym (c .before .before .first-pair .ensures) ∙ c .enum-told .given .1))
+      let called = c .before .before in
+      past-2 (called .before)
+      ∙ first-skip _ _ (pair-nowhere (k start) (writes start) .0
+      (sym (called .first-pair .ensures ∙ pair-counted (k start) (writes start) (writes-few (called .before))) ∙ c .enum-told .given .1))
 
 cells-freed-requires : tie.Need-cells-freed-requires
 cells-freed-requires c κs = search needs
@@ -143,13 +150,16 @@ module _ (c : tie.Else3) where
   abbrev start1 : tie.Start
   start1 = start (told (c .before))
 
+  reads-few1 : length (reads start1) ≤ mostCells
+  reads-few1 = reads-few (told (c .before) .before .before .before)
+
   past-12 : Left start1 (from13 start1)
   past-12 =
       past-11 (told (c .before))
       ∙ first-skip _ _ (λ (p, h, filled). denied (says-12 (c .before)) (c .if3 .left) (p, h, says-yes filled))
 
 first-pair-requires-2 : tie.Need-first-pair-requires-2
-first-pair-requires-2 c κs = omega (arith, told (c .before) .before .before .before .if2 .left)
+first-pair-requires-2 c κs = search needs
 
 enum-known-read-pair : tie.Need-enum-known-read-pair
 enum-known-read-pair c = search needs
@@ -158,7 +168,7 @@ returns-5 : tie.Need-returns-5
 returns-5 c =
     let called = c .before .before .before in
     let start = start1 (called .before) in
-    sym (past-12 (called .before) ∙ clash-given ReadClash (k start) (reads start) _ (sym (called .first-pair2 .ensures) ∙ c .before .read-pair .given .1))
+    sym (past-12 (called .before) ∙ clash-given ReadClash (k start) (reads start) _ (sym (called .first-pair2 .ensures ∙ pair-counted (k start) (reads start) (reads-few1 (called .before))) ∙ c .before .read-pair .given .1))
 
 enum-told-2 : tie.Need-enum-told-2
 enum-told-2 c = search needs
@@ -170,8 +180,10 @@ module _ (c : tie.After-enum-told2) where
 
   past-13 : Left start2 (from14 start2)
   past-13 =
-      past-12 (c .before .before .before)
-      ∙ first-skip _ _ (pair-nowhere (k start2) (reads start2) .0 (sym (c .before .before .first-pair2 .ensures) ∙ c .enum-told2 .given .1))
+      let called = c .before .before in
+      past-12 (called .before)
+      ∙ first-skip _ _ (pair-nowhere (k start2) (reads start2) .0
+      (sym (called .first-pair2 .ensures ∙ pair-counted (k start2) (reads start2) (reads-few1 (called .before))) ∙ c .enum-told2 .given .1))
 
 sub-some-cell-2 : tie.Need-sub-some-cell-2
 sub-some-cell-2 c = search needs

@@ -43,7 +43,7 @@ module _ (A : Access) (m : Memory) (out : List ℕ) (fit : Fitting (length (A .w
     o ∙ holds-yes room _ _ (fit .room),
   )
 
-module _ (c : tie.After-right-lengths) where
+module _ (c : tie.After-fitting) where
   abbrev start : tie.Start
   start = c .before .before .before .before .before .before .before
 
@@ -62,11 +62,11 @@ module _ (c : tie.After-right-lengths) where
   abbrev out : List ℕ
   out = start .args .out .now
 
-right-lengths-requires : tie.Need-right-lengths-requires
-right-lengths-requires c κs = search needs
+fitting-requires : tie.Need-fitting-requires
+fitting-requires c κs = search needs
 
 returns : tie.Need-returns
-returns c = refused-by (first-take _ _ (denied (c .before .right-lengths .ensures) (not-true _ (c .if1 .taken)))) (refl, refl)
+returns c = refused-by (first-take _ _ (denied (c .before .fitting .ensures) (not-true _ (c .if1 .taken)))) (refl, refl)
 
 first-fault-requires : tie.Need-first-fault-requires
 first-fault-requires c κs = search needs
@@ -79,11 +79,11 @@ same-length c = search needs
 
 -- past the lengths
 module _ (c : tie.Else1) where
-  abbrev at : tie.After-right-lengths
+  abbrev at : tie.After-fitting
   at = c .before
 
   fitting : Fitting (length (A at .writes)) (length (A at .words)) (length (A at .reads)) (length (out at))
-  fitting = at .right-lengths .ensures .0 (not-false _ (c .if1 .left))
+  fitting = at .fitting .ensures .0 (not-false _ (c .if1 .left))
 
 returns-2 : tie.Need-returns-2
 returns-2 c =
@@ -124,7 +124,7 @@ pub serve-spec : {M : Type 1} → statement M
 serve-spec =
     tie.close
     (tie.spec
-    right-lengths-requires
+    fitting-requires
     returns
     first-fault-requires
     is-done-requires

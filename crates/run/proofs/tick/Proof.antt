@@ -32,7 +32,7 @@ module _ (n k : ℕ) (s : List ℕ) (st : State) (ws : List ℕ) (m : Memory) (o
   ticks-by calls =
       let (_, sound) = check-sound edition1 n k s st (length ws) (length out) (length (m .words)) (length (m .marks)) none-given in
       comes-past (beforeFaults edition1 n k s st ws m out) n k (M edition1 n k s) (N edition1 n k s) st ws m out _ none-given sound
-      (calls (writeSide edition1 n k s) (readSide edition1 n k s) (checks .write done) (checks .read done))
+      (calls .over (writeSide edition1 n k s) (readSide edition1 n k s) (checks .write done) (checks .read done))
 
 module _ (c : tie.After-check) where
   abbrev start : tie.Start

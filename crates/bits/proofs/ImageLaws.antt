@@ -36,6 +36,7 @@ use lib.Arith.{lt-one}
 use lib.Pow.{pow-pos, shr-shr, field, mod-mod-pow}
 use lib.Seq.{ext-getD}
 use native.Mathlib.Numerals.{add-one}
+use Rattle.kinds.proofs.FrameLaws.{in-order-length, in-order-at, in-order-same}
 use Rattle.bits.specs.Image.{chosen, image, AllBelow, Linear, columns}
 use Rattle.bits.proofs.XorLaws.{even-or-odd, xor-half, xor-low, xor-swap, xor-assoc, xor-double, xor-split}
 use Rattle.bits.proofs.ParityLaws.{unit-half, unit-low}
@@ -147,14 +148,11 @@ image-image bs = linear-map (image bs) (image-xor bs)
 
 pub columns-length : (n : ℕ) (f : ℕ → ℕ) → length (columns n f) ≡ n
 unfolding columns
-columns-length zero f = refl
-columns-length (suc n) f = ap suc (columns-length n (λ x. f (2 * x)))
+columns-length n f = in-order-length n (λ j. f (2 ^ j))
 
 pub columns-at : (n : ℕ) (f : ℕ → ℕ) (j : ℕ) → j < n → getD (columns n f) j 0 ≡ f (2 ^ j)
 unfolding columns
-columns-at zero f j h = absurd (omega arith)
-columns-at (suc n) f zero h = refl
-columns-at (suc n) f (suc j) h = columns-at n (λ x. f (2 * x)) j (omega arith) ∙ ap f (omega (arith, pow-suc 2 j))
+columns-at n f = in-order-at n (λ j. f (2 ^ j)) 0
 
 pub columns-below : (n b : ℕ) (f : ℕ → ℕ) → ((j : ℕ) → j < n → f (2 ^ j) < b) → AllBelow b (columns n f)
 columns-below n b f below j h = let k : j < n = omega (arith, columns-length n f) in rw (columns-at n f j k) (below j k)
@@ -164,6 +162,15 @@ columns-image cs =
     ext-getD 0 (columns (length cs) (image cs)) cs (columns-length (length cs) (image cs))
     (λ j h. columns-at (length cs) (image cs) j (rw columns-length at h) ∙ image-unit cs j)
 
+columns-none : (f : ℕ → ℕ) → columns 0 f ≡ []
+unfolding columns
+columns-none f = refl
+
+columns-cons : (n : ℕ) (f : ℕ → ℕ) → columns (suc n) f ≡ f 1 ∷ columns n (λ x. f (2 * x))
+unfolding columns
+columns-cons n f =
+    ap (λ (l : List ℕ). f 1 ∷ l) (in-order-same n (λ j. f (2 ^ suc j)) (λ j. f (2 * 2 ^ j)) (λ j h. ap f (omega (arith, pow-suc 2 j))))
+
 linear-double : (f : ℕ → ℕ) → Linear f → Linear (λ x. f (2 * x))
 linear-double f l x y = ap f (xor-double x y) ∙ l (2 * x) (2 * y)
 
@@ -171,13 +178,14 @@ low-chosen : (x : ℕ) → x % 2 ≡ chosen (x % 2) 1
 low-chosen x = ⊎-elim (λ e. rw e) (λ e. rw e) (even-or-odd x)
 
 pub linear-image : (n : ℕ) (f : ℕ → ℕ) → Linear f → (x : ℕ) → x < 2 ^ n → f x ≡ image (columns n f) x
-unfolding image columns
-linear-image zero f l x h = ap f (lt-one h) ∙ linear-zero f l
+unfolding image
+linear-image zero f l x h = ap f (lt-one h) ∙ linear-zero f l ∙ sym (ap (λ (cs : List ℕ). image cs x) (columns-none f))
 linear-image (suc n) f l x h =
     ap f (xor-split x)
     ∙ l (x % 2) (2 * (x / 2))
     ∙ ap₂ bitXor (ap f (low-chosen x) ∙ linear-chosen f l (x % 2) 1)
     (linear-image n (λ y. f (2 * y)) (linear-double f l) (x / 2) (omega (arith, pow-suc 2 n)))
+    ∙ sym (ap (λ (cs : List ℕ). image cs x) (columns-cons n f))
 
 pub image-identity : (k p : ℕ) → p < 2 ^ k → image (columns k (λ p. p)) p ≡ p
 image-identity k p h = sym (linear-image k (λ p. p) (λ x y. refl) p h)

@@ -3,3 +3,4 @@ pub mod Image
 pub mod Parity
 pub mod Word
 pub mod Padded
+pub mod Decisions

@@ -8,22 +8,23 @@ use Prim.Native.Nat.{ℕ}
 use mathlib.Core.Path.{_≡_, sym, ap, _∙_}
 use mathlib.Core.List.{List}
 use Rattle.kinds.specs.Edition.{Edition}
-use Rattle.kinds.specs.Reasons.{rightLengths?}
+use Rattle.kinds.specs.Decisions.{rightLengths?}
 use Rattle.kinds.specs.Refusal.{said, given}
 use Rattle.kinds.specs.declared.Answer.{Answer}
-use Rattle.price.specs.Price.{refusalOf as refusalOfPrice}
+use Rattle.kinds.specs.Lengths.{Wanted}
+use Rattle.price.specs.Price.{refusalOfPrice}
 use Rattle.price.specs.declared.Priced.{Priced}
 use Rattle.price.proofs.PriceLaws.{prices-unique}
 use Rattle.memory.specs.Memory.{Memory}
-use Rattle.call.specs.Tool.{refusalOf, stateAfter}
-use Rattle.call.specs.declared.Ticked.{Ticked}
+use Rattle.call.specs.Tool.{Left, refusalOfRun, stateAfter}
+use Rattle.call.specs.declared.RunAnswer.{RunAnswer}
 use Rattle.run.proofs.ToolLaws.{ticks-unique}
-use Rattle.board.specs.Names.{Numbers, Besides, stateIn, placesOf, saidAfter, TicksAs, sumsAfter, PricesAs}
+use Rattle.board.specs.Names.{Numbers, Besides, stateIn, stateOut, saidAfter, Buffers, lentIn, RunsAs, sumsAfter, PricesAs}
 
 pub numbers-unique : {T U : Answer → Type 0} {X : Type 0} {r q : ℕ} → ((a b : Answer) → T a → U b → (a ≡ b) × X) → Numbers T r → Numbers U q → (r ≡ q) × X
 numbers-unique one (a, t, r) (b, u, q) = let (same, x) = one a b t u in (r ∙ ap (λ (c : Answer). given (said c)) same ∙ sym q, x)
 
-pub besides-unique : {e : Edition} {n k : ℕ} {l : List (ℕ × ℕ)} {r q : ℕ} {T U K L X : Type 0} → (T → U → (r ≡ q) × X) → (K → L → X)
+pub besides-unique : {e : Edition} {n k : ℕ} {l : List (ℕ × Wanted)} {r q : ℕ} {T U K L X : Type 0} → (T → U → (r ≡ q) × X) → (K → L → X)
     → Besides e n k l r T K → Besides e n k l q U L → (r ≡ q) × X
 besides-unique {l = l} done kept b c = elim (rightLengths? l) [
   | yes right ↦ done (b .right right) (c .right right)
@@ -33,21 +34,21 @@ besides-unique {l = l} done kept b c = elim (rightLengths? l) [
       (r ∙ sym q, kept x y)
 ]
 
-pub ticks-as-unique : {e : Edition} {n k : ℕ} {s st ws out l a b x y u v : List ℕ} {m p o : Memory} {r q : ℕ} → TicksAs e n k s st a ws m p out x l u r
-    → TicksAs e n k s st b ws m o out y l v q → (r ≡ q) × ((a ≡ b) × (p ≡ o) × (x ≡ y) × (u ≡ v))
-ticks-as-unique {e} {n} {k} {s} {st} {ws} {out} {l} {m = m} f g =
+same-buffers : {st sv : List ℕ} {m v : Memory} {o u l x : List ℕ} → st ≡ sv → m ≡ v → o ≡ u → l ≡ x
+    → _≡_ {A = Buffers} (record { state = st; memory = m; out = o; said = l }) (record { state = sv; memory = v; out = u; said = x })
+same-buffers state memory out said = cc
+
+pub ticks-as-unique : {e : Edition} {n k : ℕ} {s ws : List ℕ} {b x y : Buffers} {r q : ℕ} → RunsAs e n k s ws b x r → RunsAs e n k s ws b y q → (r ≡ q) × (x ≡ y)
+ticks-as-unique {e} {n} {k} {s} {ws} {b} f g =
     besides-unique
     (λ (d, t, told) (c, w, also).
-    let (same, memory, buffer) = ticks-unique e n k s (stateIn st) ws m out d c t w in (
-      told .number ∙ ap (λ (z : Ticked). given (refusalOf z)) same ∙ sym (also .number),
-      (
-        told .state ∙ ap (λ (z : Ticked). placesOf (stateAfter (stateIn st) z)) same ∙ sym (also .state),
-        memory,
-        buffer,
-        told .said ∙ ap (λ (z : Ticked). saidAfter z l) same ∙ sym (also .said),
-      ),
+    let left = ticks-unique e n k s (lentIn ws b) t w in
+    let same = ap (λ (l : Left). l .answer) left in (
+      told .number ∙ ap (λ (z : RunAnswer). given (refusalOfRun z)) same ∙ sym (also .number),
+      same-buffers (told .state ∙ ap (λ (z : RunAnswer). stateOut (stateAfter (stateIn (b .state)) z)) same ∙ sym (also .state)) (ap (λ (l : Left). l .memory) left)
+          (ap (λ (l : Left). l .out) left) (told .said ∙ ap (λ (z : RunAnswer). saidAfter z (b .said)) same ∙ sym (also .said)),
     ))
-    (λ (a, b, c, d) (w, x, y, z). (a ∙ sym w, b ∙ sym x, c ∙ sym y, d ∙ sym z))
+    (λ kept also. kept ∙ sym also)
     (f .tool)
     (g .tool)
 

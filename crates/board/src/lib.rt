@@ -7,9 +7,9 @@ ghost use Rattle.order.specs.Tools.{Inverts, Moves};
 ghost use Rattle.plan.specs.Tool.{Plans};
 ghost use Rattle.inspect.specs.Tool.{Inspects};
 ghost use Rattle.list.specs.Tool.{Lists};
-ghost use Rattle.board.specs.Names.{Numbers, Reports, TicksAs, PricesAs};
-ghost use Rattle.board.specs.Inside.{WrongLength, Three, NamesPorts};
-use call::Ticked;
+ghost use Rattle.board.specs.Names.{Numbers, Reports, RunsAs, PricesAs};
+ghost use Rattle.board.specs.Inside.{SaysWrongLength, Three, NamesPorts};
+use call::RunAnswer;
 use kinds::Answer;
 use kinds::Refusal;
 use price::Priced;
@@ -58,7 +58,7 @@ pub extern "C" fn board_inverse(n: u32, columns: &[u16], out: &mut [u16]) -> u32
 
 // Where a length is wrong: 1 if the sizes are too, else 2.
 fn wrong_length(n: u32, k: u32) -> u32
-    ensures { λ r. ⌜ WrongLength edition1 n k r ⌝ }
+    ensures { λ r. ⌜ SaysWrongLength edition1 n k r ⌝ }
 {
     if kinds::sized(n, k) {
         return 2;
@@ -79,9 +79,9 @@ pub extern "C" fn board_tick(
     marks: &mut [u8],
     said: &mut [u32],
 ) -> u32
-    ensures { λ r. ⌜ TicksAs edition1 n k (now (sheet .entry)) (now (state .entry)) (now (state .exit)) (now (tick .entry))
-        (record { words = now (words .entry); marks = now (marks .entry) }) (record { words = now (words .exit); marks = now (marks .exit) })
-        (now (out .entry)) (now (out .exit)) (now (said .entry)) (now (said .exit)) r ⌝ }
+    ensures { λ r. ⌜ RunsAs edition1 n k (now (sheet .entry)) (now (tick .entry))
+        (record { state = now (state .entry); memory = record { words = now (words .entry); marks = now (marks .entry) }; out = now (out .entry); said = now (said .entry) })
+        (record { state = now (state .exit); memory = record { words = now (words .exit); marks = now (marks .exit) }; out = now (out .exit); said = now (said .exit) }) r ⌝ }
 {
     if state.len() != 3 {
         return wrong_length(n, k);
@@ -94,21 +94,21 @@ pub extern "C" fn board_tick(
         h: state[1],
         r: state[2],
     };
-    let ticked = run::tick(n, k, sheet, before, tick, out, words, marks);
-    report(ticked, state, said)
+    let answer = run::tick(n, k, sheet, before, tick, out, words, marks);
+    report(answer, state, said)
 }
 
-fn report(ticked: Ticked, state: &mut [u32], said: &mut [u32]) -> u32
+fn report(answer: RunAnswer, state: &mut [u32], said: &mut [u32]) -> u32
     requires { ⌜ Three (now state) × Three (now said) ⌝ }
-    ensures { λ r. ⌜ Reports ticked (now (state .entry)) (now (state .exit)) (now (said .entry)) (now (said .exit)) r ⌝ }
+    ensures { λ r. ⌜ Reports answer (now (state .entry)) (now (state .exit)) (now (said .entry)) (now (said .exit)) r ⌝ }
 {
-    match ticked {
-        Ticked::Done(after, handed) => {
+    match answer {
+        RunAnswer::Done(after, handed) => {
             put_three(state, after.a, after.h, after.r);
             said[0] = handed as u32;
             0
         }
-        Ticked::Refused(refusal) => {
+        RunAnswer::Refused(refusal) => {
             name_ports(refusal, said);
             kinds::number(refusal)
         }

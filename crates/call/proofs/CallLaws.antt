@@ -18,16 +18,16 @@ use Rattle.kinds.specs.Frame.{ticks}
 use Rattle.kinds.specs.First.{Reason, firstOf}
 use Rattle.kinds.specs.declared.Refusal.{Refusal}
 use Rattle.kinds.proofs.FirstLaws.{first-none, first-append, first-both}
+use Rattle.kinds.specs.Lengths.{orNone, IsLength}
 use Rattle.bits.specs.Image.{AllBelow}
 use Rattle.state.specs.States.{Possible}
 use Rattle.state.specs.declared.State.{State}
 use Rattle.state.proofs.StateLaws.{next-possible}
-use Rattle.faults.specs.Faults.{faults}
+use Rattle.faults.specs.Table.{faults}
 use Rattle.faults.proofs.FaultLaws.{apart}
 use Rattle.memory.specs.Memory.{Memory, filledMarks}
 use Rattle.memory.proofs.CountLaws.{served-filled}
-use Rattle.call.specs.Call.{readsOf, writesOf, accessOf, Outcome, carriedOut, refused, outcome, call}
-use Rattle.call.specs.Tool.{rightTick}
+use Rattle.call.specs.Call.{readsOf, writesOf, accessOf, Outcome, carriedOut, refused, callOr, call}
 use Rattle.call.proofs.PlaceLaws.{nothing, reads-length, writes-length, reads-below, writes-below}
 
 module _ (t : List Reason) (n k : ℕ) (f g : ℕ → ℕ) (st : State) (ws : List ℕ) (m : Memory) where
@@ -40,13 +40,13 @@ module _ (t : List Reason) (n k : ℕ) (f g : ℕ → ℕ) (st : State) (ws : Li
   abbrev this : Outcome
   this = call t n k f g st ws m
 
-  comes : {o : Option Refusal} → firstOf (t ++ faults k writes reads (m .marks) (m .marks)) ≡ o → this ≡ outcome o n k f g st ws m
-  comes e = ap (λ (o : Option Refusal). outcome o n k f g st ws m) e
+  comes : {o : Option Refusal} → firstOf (t ++ faults k writes reads (m .marks) (m .marks)) ≡ o → this ≡ callOr o n k f g st ws m
+  comes e = ap (λ (o : Option Refusal). callOr o n k f g st ws m) e
 
   pub call-given : this .refusal ≡ firstOf (t ++ faults k writes reads (m .marks) (m .marks))
   call-given = go (firstOf (t ++ faults k writes reads (m .marks) (m .marks)))
     where
-      go : (o : Option Refusal) → outcome o n k f g st ws m .refusal ≡ o
+      go : (o : Option Refusal) → callOr o n k f g st ws m .refusal ≡ o
       go none = refl
       go (some x) = refl
 
@@ -62,7 +62,7 @@ module _ (t : List Reason) (n k : ℕ) (f g : ℕ → ℕ) (st : State) (ws : Li
   pub call-leaving : length (this .leaving) ≡ cond (this .handed) (2 ^ k) 0
   call-leaving = go (firstOf (t ++ faults k writes reads (m .marks) (m .marks)))
     where
-      go : (o : Option Refusal) → length (outcome o n k f g st ws m .leaving) ≡ cond (outcome o n k f g st ws m .handed) (2 ^ k) 0
+      go : (o : Option Refusal) → length (callOr o n k f g st ws m .leaving) ≡ cond (callOr o n k f g st ws m .handed) (2 ^ k) 0
       go none = length-map reads (λ (x : ℕ). getD (m .words) x 0) ∙ reads-length n k g st
       go (some x) = refl
 
@@ -73,7 +73,7 @@ module _ (t : List Reason) (n k : ℕ) (f g : ℕ → ℕ) (st : State) (ws : Li
     pub call-possible : Possible (ticks n k) st → Possible (ticks n k) (this .state)
     call-possible possible = rw (call-done ok) (next-possible (ticks n k) st ws possible)
 
-    pub call-filled : ((i : ℕ) → f i < 2 ^ n) → ((i : ℕ) → g i < 2 ^ n) → st .h < 2 → length (m .marks) ≡ 2 ^ (n + 1) → length ws ≡ rightTick k (length ws)
+    pub call-filled : ((i : ℕ) → f i < 2 ^ n) → ((i : ℕ) → g i < 2 ^ n) → st .h < 2 → length (m .marks) ≡ 2 ^ (n + 1) → IsLength (length ws) (orNone (2 ^ k))
         → filledMarks (this .memory .marks) + cond (this .handed) (2 ^ k) 0 ≡ filledMarks (m .marks) + length ws
     call-filled into from half marks came =
         let (clash, (filled, (crossed, (empty, _)))) = first-none (faults k writes reads (m .marks) (m .marks)) .0 (first-both t _ .0 (sym call-given ∙ ok) .1) in
@@ -84,7 +84,6 @@ module _ (t : List Reason) (n k : ℕ) (f g : ℕ → ℕ) (st : State) (ws : Li
           arith,
           served-filled (accessOf n k f g st ws) m (apart k writes clash) (apart k reads crossed) written taken filled empty,
           reads-length n k g st,
-          writes-length n k f st ws,
-          came,
+          writes-length n k f st ws came,
         )
         )

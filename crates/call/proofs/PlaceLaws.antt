@@ -4,7 +4,8 @@
 --   places-length      there are 2^k of them
 --   reads-length       a call reads 2^k cells or none
 --   reads-few          so it reads at most 2^k
---   writes-length      it writes 2^k or none
+--   came-all, came-few    of 2^k words or none, some are 2^k, and no more than that
+--   writes-length      it writes as many as came
 --   places-clash       the cells of a tick clash exactly when those of two of its words are of one bank
 --   places-below       where a map goes into 2^n cells, the places of a tick are places of the memory
 --   reads-below, writes-below      so are those that a call reads, and those that it writes
@@ -16,7 +17,7 @@ use Prim.Native.Nat.{ℕ, _+_, _-_, _*_, _/_, _^_, _<_, _≤_}
 use mathlib.Core.Path.{_≡_, refl, sym, ap, ap₂, _∙_}
 use mathlib.Core.Bool.{Bool, true, false, cond}
 use mathlib.Core.List.{List, [], _∷_}
-use mathlib.Core.Logic.{_≢_, _↔_}
+use mathlib.Core.Logic.{_≢_, _↔_, inl, inr}
 use native.Mathlib.Nat.{mul-assoc, mul-add-mod-self-right}
 use native.Mathlib.Omega.{arith}
 use lib.Arith.{digits-lt}
@@ -24,6 +25,7 @@ use lib.ListN.{length, getD}
 use lib.Pow.{pow-add, high}
 use Rattle.kinds.specs.Frame.{ticks, wordAt, bankOf, inOrder}
 use Rattle.kinds.proofs.FrameLaws.{frame-whole, in-order-length, in-order-at, in-order-is}
+use Rattle.kinds.specs.Lengths.{orNone, IsLength}
 use Rattle.bits.specs.Image.{AllBelow}
 use Rattle.sheet.specs.Sheet.{Side}
 use Rattle.switches.specs.Cells.{cellAt, cellOf}
@@ -32,7 +34,14 @@ use Rattle.state.specs.States.{reading}
 use Rattle.state.specs.declared.State.{State}
 use Rattle.faults.specs.Faults.{Clash}
 use Rattle.call.specs.Call.{placeIn, placesOf, readsOf, writesOf}
-use Rattle.call.specs.Tool.{rightTick}
+
+pub came-all : (m w : ℕ) (ws : List ℕ) → IsLength (length (w ∷ ws)) (orNone m) → length (w ∷ ws) ≡ m
+came-all m w ws (inl e) = e
+came-all m w ws (inr e) = absurd (omega (arith, e))
+
+pub came-few : {l m : ℕ} → IsLength l (orNone m) → l ≤ m
+came-few (inl e) = omega (arith, e)
+came-few (inr e) = omega (arith, e)
 
 half-bank : {n k : ℕ} → k ≤ n → (h x : ℕ) → bankOf k (placeIn n h x) ≡ bankOf k x
 half-bank {n} {k} within h x =
@@ -63,9 +72,9 @@ module _ (n k : ℕ) (f : ℕ → ℕ) where
       go true = omega arith
       go false = omega arith
 
-  pub writes-length : (st : State) (ws : List ℕ) → length (writesOf n k f st ws) ≡ rightTick k (length ws)
-  writes-length st [] = refl
-  writes-length st (w ∷ ws) = places-length (st .h) (st .a)
+  pub writes-length : (st : State) (ws : List ℕ) → IsLength (length ws) (orNone (2 ^ k)) → length (writesOf n k f st ws) ≡ length ws
+  writes-length st [] right = refl
+  writes-length st (w ∷ ws) right = places-length (st .h) (st .a) ∙ sym (came-all (2 ^ k) w ws right)
 
 module _ {n k : ℕ} (within : k ≤ n) (f : ℕ → ℕ) (h c : ℕ) where
   place-bank : (p : ℕ) → p < 2 ^ k → bankOf k (getD (placesOf n k f h c) p 0) ≡ bankOf k (f (wordAt k c p))
@@ -119,10 +128,10 @@ nothing [] e = refl
 nothing (x ∷ l) e = absurd (omega arith)
 
 module _ (n k : ℕ) (f : ℕ → ℕ) (st : State) (l : List ℕ) where
-  pub are-writes : (ws : List ℕ) → length ws ≡ rightTick k (length ws) → length l ≡ length ws → (length l ≡ 2 ^ k → l ≡ placesOf n k f (st .h) (st .a))
+  pub are-writes : (ws : List ℕ) → IsLength (length ws) (orNone (2 ^ k)) → length l ≡ length ws → (length l ≡ 2 ^ k → l ≡ placesOf n k f (st .h) (st .a))
       → l ≡ writesOf n k f st ws
   are-writes [] right e places = nothing l e
-  are-writes (w ∷ ws) right e places = places (e ∙ right)
+  are-writes (w ∷ ws) right e places = places (e ∙ came-all (2 ^ k) w ws right)
 
   pub are-reads : length l ≡ cond (reading (ticks n k) st) (2 ^ k) 0 → (length l ≡ 2 ^ k → l ≡ placesOf n k f (1 - st .h) (st .r)) → l ≡ readsOf n k f st
   are-reads e places = go (reading (ticks n k) st) e

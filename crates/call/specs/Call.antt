@@ -8,7 +8,7 @@
 --   Outcome                     what comes of a call: the refusal, if one is given; the state; whether a tick was handed out, and its words, by port; the memory
 --   carriedOut n k f g st ws m  what comes of it where nothing is refused
 --   refused x st m              what comes of it where the refusal x is given: state and memory as they came, and nothing handed out
---   outcome o n k f g st ws m   what comes of it where the refusal o is given, or none is
+--   callOr o n k f g st ws m   what comes of it where the refusal o is given, or none is
 --   call t n k f g st ws m      a call: the first that applies of the reasons of t and then of 11 to 14, and what comes of it. 12 is judged on the marks as they came
 use Prim.Native.Nat.{ℕ, _+_, _-_, _*_, _^_}
 use mathlib.Core.Bool.{Bool, false, cond}
@@ -19,7 +19,7 @@ use Rattle.kinds.specs.First.{Reason, firstOf}
 use Rattle.kinds.specs.declared.Refusal.{Refusal}
 use Rattle.state.specs.States.{reading, next}
 use Rattle.state.specs.declared.State.{State}
-use Rattle.faults.specs.Faults.{faults}
+use Rattle.faults.specs.Table.{faults}
 use Rattle.memory.specs.Memory.{Memory, Access, wordsAt, served}
 
 abbrev pub placeIn : ℕ → ℕ → ℕ → ℕ
@@ -57,9 +57,9 @@ carriedOut n k f g st ws m = record {
 abbrev pub refused : Refusal → State → Memory → Outcome
 refused x st m = record { refusal = some x; state = st; handed = false; leaving = []; memory = m }
 
-abbrev pub outcome : Option Refusal → ℕ → ℕ → (ℕ → ℕ) → (ℕ → ℕ) → State → List ℕ → Memory → Outcome
-outcome none n k f g st ws m = carriedOut n k f g st ws m
-outcome (some x) n k f g st ws m = refused x st m
+abbrev pub callOr : Option Refusal → ℕ → ℕ → (ℕ → ℕ) → (ℕ → ℕ) → State → List ℕ → Memory → Outcome
+callOr none n k f g st ws m = carriedOut n k f g st ws m
+callOr (some x) n k f g st ws m = refused x st m
 
 abbrev pub call : List Reason → ℕ → ℕ → (ℕ → ℕ) → (ℕ → ℕ) → State → List ℕ → Memory → Outcome
-call t n k f g st ws m = outcome (firstOf (t ++ faults k (writesOf n k f st ws) (readsOf n k g st) (m .marks) (m .marks))) n k f g st ws m
+call t n k f g st ws m = callOr (firstOf (t ++ faults k (writesOf n k f st ws) (readsOf n k g st) (m .marks) (m .marks))) n k f g st ws m

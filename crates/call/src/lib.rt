@@ -6,7 +6,7 @@ ghost use lib.ListN.{length};
 ghost use Rattle.kinds.specs.Answers.{Says};
 ghost use Rattle.kinds.specs.Edition.{edition1};
 ghost use Rattle.kinds.specs.First.{firstOf};
-ghost use Rattle.kinds.specs.Reasons.{RightLengths};
+ghost use Rattle.kinds.specs.Lengths.{RightLengths};
 ghost use Rattle.kinds.specs.Refusal.{said};
 ghost use Rattle.call.specs.Tool.{runLengths, callTable, Calls};
 ghost use Rattle.call.specs.Inside.{mostPorts, ListsPlaces};
@@ -17,7 +17,7 @@ use maps::OpenSide;
 use state::State;
 
 // Done: the new state, and whether a tick was handed out.
-pub enum Ticked {
+pub enum RunAnswer {
     Done(State, bool),
     Refused(Refusal),
 }
@@ -36,14 +36,14 @@ pub fn call(
     out: &mut [u32],
     words: &mut [u32],
     marks: &mut [u8],
-) -> Ticked
-    ensures { λ r. ⌜ Calls edition1 n k write read state (now (came .entry))
-        (record { words = now (words .entry); marks = now (marks .entry) }) (now (out .entry)) r
-        (record { words = now (words .exit); marks = now (marks .exit) }) (now (out .exit)) ⌝ }
+) -> RunAnswer
+    ensures { λ r. ⌜ Calls edition1 n k write read
+        (record { state = state; came = now (came .entry); memory = record { words = now (words .entry); marks = now (marks .entry) }; out = now (out .entry) })
+        (record { answer = r; memory = record { words = now (words .exit); marks = now (marks .exit) }; out = now (out .exit) }) ⌝ }
 {
     let checked = check(n, k, state, came.len(), out.len(), words.len(), marks.len());
     if let Answer::Refused(refusal) = checked {
-        return Ticked::Refused(refusal);
+        return RunAnswer::Refused(refusal);
     }
     let ticks = bits::two_to(n - k);
     let half = bits::two_to(n);
@@ -67,9 +67,9 @@ pub fn call(
         marks,
     );
     if let Answer::Refused(refusal) = answer {
-        return Ticked::Refused(refusal);
+        return RunAnswer::Refused(refusal);
     }
-    Ticked::Done(state.next(ticks, came), reading)
+    RunAnswer::Done(state.next(ticks, came), reading)
 }
 
 fn check(
@@ -81,7 +81,7 @@ fn check(
     words: usize,
     marks: usize,
 ) -> Answer
-    ensures { λ r. ⌜ said r ≡ firstOf (callTable edition1 n k state came out words marks) ⌝ }
+    ensures { λ r. ⌜ said r ≡ firstOf (callTable edition1 n k state (record { came = came; out = out; words = words; marks = marks })) ⌝ }
 {
     if !kinds::sized(n, k) {
         return Answer::Refused(Refusal::Sizes);
@@ -97,7 +97,7 @@ fn check(
 
 // Whether the lengths that a call is lent are right. No length is 2^(n + 1) for n beyond 63, and up to there n + 1 fits.
 pub fn lengths_fit(n: u32, k: u32, came: usize, out: usize, words: usize, marks: usize) -> bool
-    ensures { λ r. ⌜ Says r (RightLengths (runLengths n k came out words marks)) ⌝ }
+    ensures { λ r. ⌜ Says r (RightLengths (runLengths n k (record { came = came; out = out; words = words; marks = marks }))) ⌝ }
 {
     if 63 < n {
         return false;

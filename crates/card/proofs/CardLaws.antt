@@ -23,7 +23,7 @@ use Rattle.kinds.specs.declared.Refusal.the-variants.{Card}
 use Rattle.kinds.proofs.AnswerLaws.{said-same}
 use Rattle.kinds.proofs.FirstLaws.{first-take, first-skip, first-nil}
 use Rattle.text.specs.Decimal.{decimal}
-use Rattle.text.specs.Numbers.{ending, row, Row, Begins}
+use Rattle.text.specs.Numbers.{ending, numbersText, Row, Begins}
 use Rattle.text.proofs.DecimalLaws.{decimal-some}
 use Rattle.text.proofs.RowLaws.{row-next, row-rest, row-unique, row?}
 use Rattle.bits.specs.Padded.{paddedTo}
@@ -38,14 +38,14 @@ pub two-places : (b : List ℕ) (at next : ℕ) {v : ℕ} → next ≤ length b 
 two-places b at next {v} h g =
     omega (arith, ap length (g .bytes), length-append (decimal v) (ending (drop next b) ∷ drop next b), decimal-some v, length-drop at b, length-drop next b)
 
-row-places : (ns : List ℕ) → 2 * length ns ≤ length (row ns)
-unfolding row
+row-places : (ns : List ℕ) → 2 * length ns ≤ length (numbersText ns)
+unfolding numbersText
 row-places [] = omega arith
-row-places (x ∷ xs) = omega (arith, decimal-some x, length-append (decimal x) (ending (row xs) ∷ row xs), row-places xs)
+row-places (x ∷ xs) = omega (arith, decimal-some x, length-append (decimal x) (ending (numbersText xs) ∷ numbersText xs), row-places xs)
 
 some-number : {b ns : List ℕ} → Row b ns → 1 ≤ length ns → (v : ℕ) × (rest : List ℕ) × Begins b v rest
 some-number {ns = []} r h = absurd (omega arith)
-some-number {ns = x ∷ xs} r h = (x, row xs, row-next r .0)
+some-number {ns = x ∷ xs} r h = (x, numbersText xs, row-next r .0)
 
 unfoldable pub card? : (b : List ℕ) → Dec (Readable b)
 unfolding decLe

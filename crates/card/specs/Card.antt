@@ -15,10 +15,12 @@ use Prim.Native.Nat.{ℕ, _-_, _/_, _≤_}
 use mathlib.Core.Path.{_≡_}
 use mathlib.Core.List.{List, [], _∷_}
 use lib.ListN.{length, getD, drop}
-use Rattle.kinds.specs.Edition.{Edition, sized?}
+use Rattle.kinds.specs.Edition.{Edition}
+use Rattle.kinds.specs.Decisions.{sized?}
 use Rattle.kinds.specs.First.{Reason, unless, firstOf}
 use Rattle.kinds.specs.Refusal.{said}
 use Rattle.kinds.specs.declared.Refusal.the-variants.{Card}
+use Rattle.kinds.specs.Lengths.{Wanted}
 use Rattle.text.specs.Numbers.{Row}
 use Rattle.order.specs.Table.{orderTable}
 use Rattle.bits.specs.Padded.{paddedTo}
@@ -67,5 +69,5 @@ pub record ReadsAs {b : List ℕ} (d : Dec (Readable b)) (r : Reading) : Type 0 
 abbrev pub Reads : List ℕ → Reading → Type 0
 Reads b r = (d : Dec (Readable b)) → ReadsAs d r
 
-abbrev pub cardTable : {b : List ℕ} → Edition → Dec (Readable b) → List (ℕ × ℕ) → List Reason
+abbrev pub cardTable : {b : List ℕ} → Edition → Dec (Readable b) → List (ℕ × Wanted) → List Reason
 cardTable e d others = unreadable d ∷ orderTable (sized? e (nOn d) (kOn d)) (nOn d) (columnsOn d) others

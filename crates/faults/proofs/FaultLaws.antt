@@ -1,8 +1,6 @@
 -- Two ports that want one bank.
 --   Different cs           the cells of cs are different
 --   apart                  cells that don't clash are
---   LowestPair k cs p q    "the first such pair, lowest port first (smallest first port, then smallest second)": p and q want one bank,
---                          no two ports that do have a smaller first, and none with the first port p have a smaller second
 --   first-pair-law         where there is a clash, the ports that a refusal names are the first such pair
 --   pair-clash             where there is a first such pair, there is a clash
 --   first-pair-named       and its ports are those that a refusal names
@@ -23,14 +21,10 @@ use Rattle.kinds.specs.Search.{someBelow, found}
 use Rattle.kinds.specs.declared.Port.{Port}
 use Rattle.kinds.proofs.TruthLaws.{holds-yes}
 use Rattle.kinds.proofs.SearchLaws.{found-has, found-first, found-least}
-use Rattle.faults.specs.Faults.{WantOneBank, wantOneBank?, laterPort?, Clash, clash?, firstPort, secondPort, pairFrom, firstPair, portsOf, mostCells}
+use Rattle.faults.specs.Faults.{WantOneBank, LowestPair, Clash, mostCells}
+use Rattle.faults.specs.Decisions.{wantOneBank?, laterWants?, clash?}
+use Rattle.faults.specs.Table.{firstPort, secondPort, pairFrom, firstPair, portsOf}
 use Rattle.faults.specs.declared.Pair.the-variants.{Nowhere, Between}
-
-pub record LowestPair (k : ℕ) (cs : List ℕ) (p q : ℕ) : Type 0 where
-  pub inside : q < length cs
-  pub one-bank : WantOneBank k cs p q
-  pub first : (i j : ℕ) → j < length cs → WantOneBank k cs i j → p ≤ i
-  pub second : (j : ℕ) → j < length cs → WantOneBank k cs p j → q ≤ j
 
 not-above : {P : ℕ → Type 0} (P? : (i : ℕ) → Dec (P i)) (n i : ℕ) → P i → found (someBelow P? n) ≤ i
 not-above P? n i p = let high : ¬ (i < found (someBelow P? n)) = λ low. found-first P? n i low p in omega arith
@@ -44,12 +38,12 @@ apart k cs none p q l h same = none (p, omega arith, (q, h, (l, ap (bankOf k) sa
 module _ {k : ℕ} {cs : List ℕ} where
   pub first-pair-law : Clash k cs → LowestPair k cs (firstPort k cs) (secondPort k cs)
   first-pair-law clash =
-      let later = found-has (laterPort? k cs) (length cs) clash .1 in
+      let later = found-has (laterWants? k cs) (length cs) clash .1 in
       let (inside, one-bank) = found-has (wantOneBank? k cs (firstPort k cs)) (length cs) later in
       record {
         inside = inside;
         one-bank = one-bank;
-        first = λ i j h w. not-above (laterPort? k cs) (length cs) i (j, h, w);
+        first = λ i j h w. not-above (laterWants? k cs) (length cs) i (j, h, w);
         second = λ j h w. not-above (wantOneBank? k cs (firstPort k cs)) (length cs) j w;
       }
 
@@ -59,7 +53,7 @@ module _ {k : ℕ} {cs : List ℕ} where
 
     first-port : firstPort k cs ≡ p
     unfolding pair-clash
-    first-port = found-least (laterPort? k cs) (length cs) p (pair-clash .1) (pair-clash .2) (λ i l (j, h, w). omega (arith, firstOf .first i j h w))
+    first-port = found-least (laterWants? k cs) (length cs) p (pair-clash .1) (pair-clash .2) (λ i l (j, h, w). omega (arith, firstOf .first i j h w))
 
     pub first-pair-named : (firstPort k cs ≡ p) × (secondPort k cs ≡ q)
     first-pair-named = (

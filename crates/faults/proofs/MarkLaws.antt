@@ -13,7 +13,7 @@ use native.Mathlib.Decide.{ℕ-discrete, decLt}
 use native.Mathlib.Omega.{arith}
 use lib.ListN.{length, getD, set, length-set, List·getD-eq-default}
 use lib.Seq.{getD-set-same, getD-set-other}
-use Rattle.faults.specs.Marks.{put, marked}
+use Rattle.faults.specs.Marks.{put, withMarks}
 
 pub put-nil : (vs l : List ℕ) → put [] vs l ≡ l
 unfolding put
@@ -45,12 +45,12 @@ set-zero l x y other = elim (ℕ-discrete y x) [
   | no differs ↦ getD-set-other l x y 0 0 differs ∙ other differs
 ]
 
-pub zero-stays : (cs l : List ℕ) (y : ℕ) → getD l y 0 ≡ 0 → getD (marked 0 cs l) y 0 ≡ 0
+pub zero-stays : (cs l : List ℕ) (y : ℕ) → getD l y 0 ≡ 0 → getD (withMarks 0 cs l) y 0 ≡ 0
 unfolding put
 zero-stays [] l y e = e
 zero-stays (x ∷ cs) l y e = zero-stays cs (set l x 0) y (set-zero l x y (λ _. e))
 
-pub marked-zero : (cs l : List ℕ) (p : ℕ) → p < length cs → getD (marked 0 cs l) (getD cs p 0) 0 ≡ 0
+pub marked-zero : (cs l : List ℕ) (p : ℕ) → p < length cs → getD (withMarks 0 cs l) (getD cs p 0) 0 ≡ 0
 unfolding put
 marked-zero [] l p h = absurd (omega arith)
 marked-zero (x ∷ cs) l zero h = zero-stays cs (set l x 0) x (set-zero l x x (λ differs. absurd (differs refl)))

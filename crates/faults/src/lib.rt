@@ -8,8 +8,9 @@ ghost use Rattle.kinds.specs.Answers.{Says};
 ghost use Rattle.kinds.specs.Decided.{ifHolds};
 ghost use Rattle.kinds.specs.First.{firstOf};
 ghost use Rattle.kinds.specs.Refusal.{said};
-ghost use Rattle.faults.specs.Marks.{Filled, marked};
-ghost use Rattle.faults.specs.Faults.{Clash, firstPair, mostCells, SomeMarked, faultTable};
+ghost use Rattle.faults.specs.Marks.{Filled, withMarks};
+ghost use Rattle.faults.specs.Faults.{Clash, mostCells, SomeMarked};
+ghost use Rattle.faults.specs.Table.{firstPair, faultTable};
 ghost use Rattle.faults.specs.Inside.{mostBanks, BankBits};
 ghost use Rattle.faults.specs.declared.Pair.the-variants.{Nowhere};
 use kinds::Answer;
@@ -139,7 +140,7 @@ fn bank_bits(k: u32) -> u32
 
 // Whether some cell is filled, or whether some cell is empty, as the marks are after the freed cells were emptied.
 pub fn some_cell(cells: &[u32], freed: &[u32], marks: &[u8], filled: bool) -> bool
-    ensures { λ r. ⌜ Says r (SomeMarked filled (marked 0 (now (freed .entry)) (now (marks .entry))) (now (cells .entry))) ⌝ }
+    ensures { λ r. ⌜ Says r (SomeMarked filled (withMarks 0 (now (freed .entry)) (now (marks .entry))) (now (cells .entry))) ⌝ }
 {
     let mut p = 0;
     while p < cells.len() {
@@ -153,7 +154,7 @@ pub fn some_cell(cells: &[u32], freed: &[u32], marks: &[u8], filled: bool) -> bo
 
 // Whether a cell is filled that was not freed. A cell beyond the memory is empty.
 fn is_filled(cell: u32, freed: &[u32], marks: &[u8]) -> bool
-    ensures { λ r. ⌜ Says r (Filled (marked 0 (now (freed .entry)) (now (marks .entry))) cell) ⌝ }
+    ensures { λ r. ⌜ Says r (Filled (withMarks 0 (now (freed .entry)) (now (marks .entry))) cell) ⌝ }
 {
     let at = cell as usize;
     if marks.len() <= at {

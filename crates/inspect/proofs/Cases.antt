@@ -6,17 +6,17 @@ use mathlib.Core.List.{List, [], _∷_, map}
 use native.Mathlib.Decide.{ℕ-discrete, decLe, decLt}
 use lib.Count.{ones}
 use lib.ListN.{set}
-use Rattle.kinds.specs.Edition.{edition1, sized?}
+use Rattle.kinds.specs.Edition.{edition1}
+use Rattle.kinds.specs.Decisions.{sized?, rightLengths?}
 use Rattle.kinds.specs.Refusal.{given}
 use Rattle.kinds.specs.First.{firstOf}
-use Rattle.kinds.specs.Reasons.{rightLengths?}
 use Rattle.kinds.specs.Search.{someBelow, eachBelow}
-use Rattle.bits.specs.Image.{image, allBelow?}
+use Rattle.bits.specs.Image.{image}
+use Rattle.bits.specs.Decisions.{allBelow?}
 use Rattle.bits.specs.Parity.{parity, dot}
-use Rattle.span.specs.Maps.{bijection?}
-use Rattle.span.specs.Sums.{independent?}
+use Rattle.span.specs.Decisions.{bijection?, independent?}
 use Rattle.sheet.specs.Sheet.{stagesIn}
-use Rattle.sheet.specs.Layout.{fromTo?, stageInRange?, eachStage?, inRange?, allZero?, formedSide?, wellFormed?}
+use Rattle.sheet.specs.Decisions.{fromTo?, stageInRange?, eachStage?, inRange?, allZero?, formedSide?, wellFormed?}
 use Rattle.sheet.proofs.Cases.{reversal}
 use Rattle.switches.specs.Stages.{afterStages}
 use Rattle.promise.proofs.Cases.{gray, identity, turning, one-tick}

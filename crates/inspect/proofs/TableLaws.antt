@@ -12,7 +12,8 @@ use mathlib.Core.List.{List, _∷_}
 use mathlib.Core.Logic.{_↔_}
 use mathlib.Core.Option.{none}
 use native.Mathlib.Omega.{arith}
-use Rattle.kinds.specs.Edition.{Edition, sized?}
+use Rattle.kinds.specs.Edition.{Edition}
+use Rattle.kinds.specs.Decisions.{sized?}
 use Rattle.kinds.specs.First.{Reason, firstOf, Ascending}
 use Rattle.kinds.specs.Refusal.{said}
 use Rattle.kinds.specs.declared.Answer.{Answer}
@@ -23,13 +24,13 @@ use Rattle.kinds.proofs.AnswerLaws.{not-both, said-same}
 use Rattle.kinds.proofs.FirstLaws.{first-none, first-both}
 use Rattle.order.specs.Table.{orderTable}
 use Rattle.order.proofs.TableLaws.{order-sound}
-use Rattle.sheet.specs.Layout.{wellFormed?}
+use Rattle.sheet.specs.Decisions.{wellFormed?}
 use Rattle.sheet.specs.Table.{brokenLayout, sheetLengths}
 use Rattle.maps.specs.Opened.{unopened}
 use Rattle.maps.specs.declared.Opened.{Opened}
 use Rattle.maps.proofs.OpenLaws.{sides-unique}
-use Rattle.promise.specs.Series.{Right}
-use Rattle.promise.specs.Passes.{passTable, Passes}
+use Rattle.promise.specs.Right.{Right}
+use Rattle.promise.specs.Realises.{mapTable, Realises}
 use Rattle.promise.proofs.ExactLaws.{exact}
 use Rattle.promise.proofs.BoundLaws.{read-stages}
 use Rattle.inspect.specs.Tool.{inspectTable, Inspectable, Inspects, OpensPassed}
@@ -42,9 +43,9 @@ module _ (e : Edition) (n k : ℕ) (C s : List ℕ) where
   first = orderTable (sized? e n k) n C (sheetLengths e s)
 
   abbrev rest : List Reason
-  rest = brokenLayout e n k s ∷ passTable e n k C s
+  rest = brokenLayout e n k s ∷ mapTable e n k C s
 
-  pub inspect-none : firstOf (inspectTable e n k C s) ≡ none ↔ (Inspectable e n k C s × Passes e n k C s)
+  pub inspect-none : firstOf (inspectTable e n k C s) ≡ none ↔ (Inspectable e n k C s × Realises e n k C s)
   inspect-none = (
     λ none-given.
         let (checked, judged) = first-both first rest .0 none-given in
@@ -59,7 +60,7 @@ module _ (e : Edition) (n k : ℕ) (C s : List ℕ) where
   )
 
 module _ {e : Edition} {n k : ℕ} {C s : List ℕ} where
-  whole-exact : Inspectable e n k C s → Passes e n k C s ↔ Right e n k C s
+  whole-exact : Inspectable e n k C s → Realises e n k C s ↔ Right e n k C s
   whole-exact whole = exact (omega (arith, whole .sized .most)) (whole .order) (whole .formed)
 
   pub inspects-by : {r : Answer} → said r ≡ firstOf (inspectTable e n k C s) → Inspects e n k C s r
@@ -73,7 +74,7 @@ module _ {e : Edition} {n k : ℕ} {C s : List ℕ} where
     stages = λ done. let (whole, ok) = passed done in read-stages (omega (arith, whole .sized .most)) (whole .order) (whole .formed) ok;
   }
     where
-      passed : r ≡ Done → Inspectable e n k C s × Passes e n k C s
+      passed : r ≡ Done → Inspectable e n k C s × Realises e n k C s
       passed done = inspect-none e n k C s .0 (sym gives ∙ ap said done)
 
   pub passed-refused : {r : Opened} {a : Answer} {x : Refusal} → said a ≡ firstOf (inspectTable e n k C s) → a ≡ Refused x → r ≡ unopened x → OpensPassed e n k C s r

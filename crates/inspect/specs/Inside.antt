@@ -20,7 +20,7 @@ use Rattle.switches.specs.Cells.{cellOf}
 use Rattle.bits.specs.Padded.{arrayWidth}
 use Rattle.maps.specs.Opened.{Shows}
 use Rattle.maps.specs.declared.OpenSide.{OpenSide}
-use Rattle.promise.specs.Passes.{passTable}
+use Rattle.promise.specs.Realises.{mapTable}
 
 abbrev pub AgreeAt : ℕ → List ℕ → List ℕ → Side → ℕ → Type 0
 AgreeAt k C w R j = getD w j 0 ≡ cellOf k R (getD C j 0)
@@ -43,4 +43,4 @@ pub record Judgeable (n k : ℕ) (C : List ℕ) : Type 0 where
 
 abbrev pub Judges : ℕ → ℕ → List ℕ → OpenSide → OpenSide → Answer → Type 0
 Judges n k C o p r =
-    (s : List ℕ) → Shows n k o (writeSide edition1 n k s) → Shows n k p (readSide edition1 n k s) → said r ≡ firstOf (passTable edition1 n k C s)
+    (s : List ℕ) → Shows n k o (writeSide edition1 n k s) → Shows n k p (readSide edition1 n k s) → said r ≡ firstOf (mapTable edition1 n k C s)

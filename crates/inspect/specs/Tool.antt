@@ -9,7 +9,8 @@ use mathlib.Core.Path.{_≡_}
 use mathlib.Core.List.{List, _∷_, _++_}
 use mathlib.Core.Logic.{_↔_}
 use lib.ListN.{length}
-use Rattle.kinds.specs.Edition.{Edition, Sized, sized?, sheetPlaces}
+use Rattle.kinds.specs.Edition.{Edition, Sized, sheetPlaces}
+use Rattle.kinds.specs.Decisions.{sized?}
 use Rattle.kinds.specs.First.{Reason, firstOf}
 use Rattle.kinds.specs.Refusal.{said}
 use Rattle.kinds.specs.declared.Answer.{Answer}
@@ -24,11 +25,11 @@ use Rattle.sheet.specs.Layout.{WellFormed}
 use Rattle.sheet.specs.Table.{brokenLayout, sheetLengths}
 use Rattle.maps.specs.Opened.{Shows, closed}
 use Rattle.maps.specs.declared.Opened.{Opened}
-use Rattle.promise.specs.Series.{Right}
-use Rattle.promise.specs.Passes.{passTable}
+use Rattle.promise.specs.Right.{Right}
+use Rattle.promise.specs.Realises.{mapTable}
 
 abbrev pub inspectTable : Edition → ℕ → ℕ → List ℕ → List ℕ → List Reason
-inspectTable e n k C s = orderTable (sized? e n k) n C (sheetLengths e s) ++ brokenLayout e n k s ∷ passTable e n k C s
+inspectTable e n k C s = orderTable (sized? e n k) n C (sheetLengths e s) ++ brokenLayout e n k s ∷ mapTable e n k C s
 
 pub record Inspectable (e : Edition) (n k : ℕ) (C s : List ℕ) : Type 0 where
   pub sized : Sized e n k

@@ -21,7 +21,7 @@ use borrow.Author.Tests.{eqb-true, eq-eqb}
 use lib.Dec.{eqb}
 use Rattle.kinds.specs.Refusal.{said}
 use Rattle.kinds.specs.First.{Reason, firstOf}
-use Rattle.kinds.specs.Reasons.{RightLengths}
+use Rattle.kinds.specs.Lengths.{Wanted, exactly, RightLengths}
 use Rattle.kinds.specs.Answers.{Says, Checks, Answers}
 use Rattle.kinds.specs.declared.Answer.{Answer}
 use Rattle.kinds.specs.declared.Answer.the-variants.{Done, Refused}
@@ -42,14 +42,14 @@ pub said-before : (s t : List Reason) (r : Answer) → ¬ (r ≡ Done) → said 
 said-before s t Done refuses e = absurd (refuses refl)
 said-before s t (Refused x) refuses e = sym (first-before s t (sym e))
 
-pub one-length : (lent right : ℕ) → Says (eqb lent right) (RightLengths ((lent, right) ∷ []))
+pub one-length : (lent right : ℕ) → Says (eqb lent right) (RightLengths ((lent, exactly right) ∷ []))
 one-length lent right = (λ e. (eqb-true lent right e, tt), λ same. eq-eqb lent right (same .0))
 
-pub some-lengths : (fits : Bool) → (others : List (ℕ × ℕ)) × Says fits (RightLengths others)
+pub some-lengths : (fits : Bool) → (others : List (ℕ × Wanted)) × Says fits (RightLengths others)
 some-lengths true = ([], says-yes tt)
-some-lengths false = ((0, 1) ∷ [], says-no (λ right. omega (arith, right .0)))
+some-lengths false = ((0, exactly 1) ∷ [], says-no (λ right. omega (arith, right .0)))
 
-pub checks-unique : (t : List (ℕ × ℕ) → List Reason) (fits : Bool) (r s : Answer) → Checks t fits r → Checks t fits s → r ≡ s
+pub checks-unique : (t : List (ℕ × Wanted) → List Reason) (fits : Bool) (r s : Answer) → Checks t fits r → Checks t fits s → r ≡ s
 checks-unique t fits r s p q = let (others, says) = some-lengths fits in said-same r s (p others says ∙ sym (q others says))
 
 module _ {t : List Reason} {D K : Type 0} where

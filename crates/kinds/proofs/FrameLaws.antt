@@ -7,9 +7,11 @@
 --   in-order-length     m values in order are m
 --   in-order-at         the value at a place below m is that of the place
 --   in-order-is         a list of m values that are these is this one
+--   in-order-same       maps that agree at each place below m give the same values
+--   in-order-snoc       one value more
 use Prim.Native.Nat.{ℕ, zero, suc, _-_, _*_, _^_, _<_, _≤_}
-use mathlib.Core.Path.{_≡_, refl, sym, ap, _∙_}
-use mathlib.Core.List.{List}
+use mathlib.Core.Path.{_≡_, refl, sym, ap, ap₂, _∙_}
+use mathlib.Core.List.{List, [], _∷_, _++_}
 use native.Mathlib.Nat.{div-lt-iff-lt-mul, mod-lt}
 use native.Mathlib.Omega.{arith}
 use lib.Arith.{digits-lt}
@@ -48,3 +50,13 @@ module _ {A : Type 0} where
   pub in-order-is : (m : ℕ) (f : ℕ → A) (d : A) (l : List A) → length l ≡ m → ((i : ℕ) → i < m → getD l i d ≡ f i) → l ≡ inOrder m f
   in-order-is m f d l e h =
       ext-getD d l (inOrder m f) (e ∙ sym (in-order-length m f)) (λ i k. h i (omega (arith, e)) ∙ sym (in-order-at m f d i (omega (arith, e))))
+
+  pub in-order-same : (m : ℕ) (f g : ℕ → A) → ((i : ℕ) → i < m → f i ≡ g i) → inOrder m f ≡ inOrder m g
+  unfolding inOrder
+  in-order-same zero f g same = refl
+  in-order-same (suc m) f g same = ap₂ _∷_ (same 0 (omega arith)) (in-order-same m (λ i. f (suc i)) (λ i. g (suc i)) (λ i h. same (suc i) (omega arith)))
+
+  pub in-order-snoc : (m : ℕ) (f : ℕ → A) → inOrder (suc m) f ≡ inOrder m f ++ (f m ∷ [])
+  unfolding inOrder
+  in-order-snoc zero f = refl
+  in-order-snoc (suc m) f = ap (λ (l : List A). f 0 ∷ l) (in-order-snoc m (λ i. f (suc i)))

@@ -14,15 +14,15 @@ use mathlib.Core.Option.{Option, none, some}
 use lib.ListN.{length, drop}
 use Rattle.kinds.specs.Refusal.{said}
 use Rattle.kinds.specs.First.{Reason, firstOf}
-use Rattle.kinds.specs.Reasons.{RightLengths}
+use Rattle.kinds.specs.Lengths.{Wanted, RightLengths}
 use Rattle.kinds.specs.declared.Answer.{Answer}
 use Rattle.kinds.specs.declared.Refusal.{Refusal}
 
 abbrev pub Says : Bool → Type 0 → Type 0
 Says b A = (b ≡ true) ↔ A
 
-abbrev pub Checks : (List (ℕ × ℕ) → List Reason) → Bool → Answer → Type 0
-Checks t fits r = (others : List (ℕ × ℕ)) → Says fits (RightLengths others) → said r ≡ firstOf (t others)
+abbrev pub Checks : (List (ℕ × Wanted) → List Reason) → Bool → Answer → Type 0
+Checks t fits r = (others : List (ℕ × Wanted)) → Says fits (RightLengths others) → said r ≡ firstOf (t others)
 
 pub record Answers (t : List Reason) (o : Option Refusal) (D K : Type 0) : Type 0 where
   pub first-of : o ≡ firstOf t

@@ -5,10 +5,7 @@
 --   sheetPlaces e  places of a sheet: the write side, then the read side
 --   SizedN e n     n is within the sizes
 --   Sized e n k    n and k are
---   sizedN?, sized?    whether they are
 use Prim.Native.Nat.{ℕ, _+_, _*_, _≤_, min}
-use native.Mathlib.Decide.{decLe}
-use Rattle.kinds.specs.Decided.{both, through}
 
 pub record Edition : Type 0 where
   pub most-n : ℕ
@@ -33,14 +30,3 @@ pub record Sized (e : Edition) (n k : ℕ) : Type 0 where
   pub frame : SizedN e n
   pub least : 1 ≤ k
   pub most : k ≤ min n (e .most-k)
-
-unfoldable pub sizedN? : (e : Edition) (n : ℕ) → Dec (SizedN e n)
-unfolding decLe
-sizedN? e n =
-    through (λ (l, m). record { least = l; most = m }, λ s. (s .least, s .most)) (both (decLe 1 n) (decLe n (e .most-n)))
-
-unfoldable pub sized? : (e : Edition) (n k : ℕ) → Dec (Sized e n k)
-unfolding sizedN? decLe
-sized? e n k =
-    through (λ (f, (l, m)). record { frame = f; least = l; most = m }, λ s. (s .frame, (s .least, s .most)))
-    (both (sizedN? e n) (both (decLe 1 k) (decLe k (min n (e .most-k)))))

@@ -3,6 +3,8 @@ pub mod Decided
 pub mod Search
 pub mod Edition
 pub mod Frame
+pub mod Lengths
+pub mod Decisions
 pub mod Refusal
 pub mod First
 pub mod Reasons

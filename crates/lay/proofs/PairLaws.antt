@@ -16,7 +16,7 @@ use Rattle.span.specs.Scan.{units}
 use Rattle.span.specs.Rows.{dots}
 use Rattle.sheet.specs.Sheet.{Stage}
 use Rattle.sheet.specs.Layout.{StageInRange, EachStage}
-use Rattle.switches.specs.Stages.{directions, controls, selected}
+use Rattle.switches.proofs.StageLaws.{directions, controls, selected}
 use Rattle.lay.specs.Staged.{pairs}
 
 pairs-parts : (ds cs : List ℕ) → length cs ≡ length ds → (directions (pairs ds cs) ≡ ds) × (controls (pairs ds cs) ≡ cs)

@@ -6,14 +6,14 @@ use mathlib.Core.Path.{_≡_, refl}
 use mathlib.Core.List.{List, [], _∷_, map, flatten}
 use native.Mathlib.Decide.{ℕ-discrete, decLe}
 use lib.Count.{ones}
-use Rattle.kinds.specs.Edition.{edition1, sized?}
+use Rattle.kinds.specs.Edition.{edition1}
+use Rattle.kinds.specs.Decisions.{sized?, rightLengths?}
 use Rattle.kinds.specs.Frame.{inOrder}
 use Rattle.kinds.specs.First.{firstOf}
-use Rattle.kinds.specs.Reasons.{rightLengths?}
 use Rattle.kinds.specs.Search.{someBelow, those}
 use Rattle.bits.specs.Image.{image, columns}
 use Rattle.bits.specs.Parity.{parity, dot}
-use Rattle.span.specs.Sums.{sumOf?, independent?}
+use Rattle.span.specs.Decisions.{sumOf?, independent?}
 use Rattle.span.specs.Scan.{keptAt, others, mask, masks}
 use Rattle.span.specs.Rows.{dots, rows}
 use Rattle.text.specs.Decimal.{codes, decimalIn}

@@ -13,9 +13,10 @@ use mathlib.Core.List.{List, [], _∷_, _++_}
 use native.Mathlib.Omega.{arith}
 use lib.ListN.{length, take, drop, set, length-append}
 use lib.Seq.{sets-eq}
-use Rattle.kinds.specs.Edition.{edition1, sized?}
+use Rattle.kinds.specs.Edition.{edition1}
+use Rattle.kinds.specs.Decisions.{sized?}
 use Rattle.kinds.specs.First.{firstOf}
-use Rattle.kinds.specs.Reasons.{RightLengths}
+use Rattle.kinds.specs.Lengths.{Wanted, RightLengths}
 use Rattle.kinds.specs.Refusal.{said}
 use Rattle.kinds.specs.declared.Answer.the-variants.{Done}
 use Rattle.kinds.proofs.FirstLaws.{first-none, first-skip, first-alike}
@@ -28,7 +29,7 @@ use Rattle.card.specs.Card.{mostColumns, Readable, columnsOn, unreadable, Reads
 use Rattle.lines.specs.Line.{spaced, line}
 use Rattle.lines.specs.Written.{Fits, Writes}
 use Rattle.list.specs.Listing.{listing}
-use Rattle.list.specs.Tool.{listed, printed, PrintsAs}
+use Rattle.list.specs.Tool.{listingOf, printed, PrintsAs}
 use Rattle.card.specs.declared.Reading.{Reading}
 
 abbrev read : Reading → List ℕ
@@ -38,16 +39,16 @@ module _ {b : List ℕ} {d : Dec (Readable b)} {R : Reading} (reads : ReadsAs d 
   columns-read : read R ≡ columnsOn d
   columns-read = rw (reads .columns) (padded-part mostColumns (columnsOn d) (R .count) (reads .count))
 
-  module _ (readable : R .answer ≡ Done) (others : List (ℕ × ℕ)) where
+  module _ (readable : R .answer ≡ Done) (others : List (ℕ × Wanted)) where
     pub order-on-card : firstOf (orderTable (sized? edition1 (R .n) (R .k)) (R .n) (read R) others) ≡ firstOf (cardTable edition1 d others)
     order-on-card =
         rw (reads .n, reads .k, columns-read) refl
         ∙ sym (first-skip (unreadable d) _ (first-none (unreadable d ∷ []) .0 (sym (reads .answer) ∙ ap said readable) .0))
 
-  pub listed-read : listing (R .n) (R .k) (read R) ≡ listed d
+  pub listed-read : listing (R .n) (R .k) (read R) ≡ listingOf d
   listed-read = rw (reads .n, reads .k, columns-read) refl
 
-module _ {b : List ℕ} (d : Dec (Readable b)) (others : List (ℕ × ℕ)) (right : RightLengths others) where
+module _ {b : List ℕ} (d : Dec (Readable b)) (others : List (ℕ × Wanted)) (right : RightLengths others) where
   pub lengths-right : firstOf (cardTable edition1 d others) ≡ firstOf (cardTable edition1 d [])
   lengths-right =
       first-alike _ _ _ _ refl (λ a. a, λ a. a)

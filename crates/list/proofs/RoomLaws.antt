@@ -19,9 +19,9 @@ use Rattle.text.specs.Decimal.{codes, decimal}
 use Rattle.text.proofs.DecimalLaws.{decimal-length}
 use Rattle.order.specs.Order.{place, Order}
 use Rattle.sheet.specs.Sheet.{Stage, Side, flat}
-use Rattle.sheet.specs.Layout.{StageInRange, EachStage, Layable}
-use Rattle.sheet.proofs.LayLaws.{flat-length}
-use Rattle.promise.specs.Series.{tickIn}
+use Rattle.sheet.specs.Layout.{StageInRange, EachStage}
+use Rattle.sheet.proofs.LayLaws.{flat-length, Layable}
+use Rattle.promise.specs.Series.{wordsOfTick}
 use Rattle.plan.specs.Planned.{plannedRead, plannedWrite}
 use Rattle.plan.proofs.ChoiceLaws.{read-layable}
 use Rattle.plan.proofs.PlannedLaws.{write-layable}
@@ -29,7 +29,7 @@ use Rattle.trial.specs.Trial.{wordAtPlace, lampOrder}
 use Rattle.lines.specs.Line.{line}
 use Rattle.lines.proofs.LineLaws.{spaced-length, line-length}
 use Rattle.list.specs.Listing.{stageLine, tickLine, listing}
-use Rattle.list.specs.Tool.{room}
+use Rattle.list.specs.Tool.{textPlaces}
 
 -- ---- the stages
 
@@ -78,10 +78,10 @@ lamps-below n C q = elim (decLt q (2 ^ n)) [
 ]
 
 module _ (k : ℕ) (l : List ℕ) (c : ℕ) where
-  tick-length : length (tickIn k l c) ≡ 2 ^ k
+  tick-length : length (wordsOfTick k l c) ≡ 2 ^ k
   tick-length = in-order-length (2 ^ k) (λ p. getD l (wordAt k c p) 0)
 
-  tick-below : (b : ℕ) → ((q : ℕ) → getD l q 0 < b) → AllBelow b (tickIn k l c)
+  tick-below : (b : ℕ) → ((q : ℕ) → getD l q 0 < b) → AllBelow b (wordsOfTick k l c)
   tick-below b each p h = rw (in-order-at (2 ^ k) (λ p. getD l (wordAt k c p) 0) 0 p (omega (arith, tick-length))) (each (wordAt k c p))
 
 lines-length : (b m : ℕ) (f : ℕ → List ℕ) → ((c : ℕ) → c < m → length (f c) ≤ b) → length (flatten (inOrder m f)) ≤ m * b
@@ -98,12 +98,12 @@ module _ {n k : ℕ} {C : List ℕ} (sized : Sized edition1 n k) (order : Order 
   tick-line : (c : ℕ) → c < ticks n k → length (tickLine k lamps c) ≤ 5 + 5 * 2 ^ k
   unfolding codes
   tick-line c h =
-      let words = tickIn k lamps c in
+      let words = wordsOfTick k lamps c in
       let below = tick-below k lamps c 10000 (λ q. omega (arith, lamps-below n C q, few-words sized)) in
       let label = decimal-length 3 c (omega arith) (omega (arith, few-ticks sized)) in
       omega (arith, line-length (decimal c ++ codes ":") words, length-append (decimal c) (codes ":"), spaced-length 4 words (omega arith) below, tick-length k lamps c)
 
-  pub listing-fits : length (listing n k C) ≤ room
+  pub listing-fits : length (listing n k C) ≤ textPlaces
   unfolding codes
   listing-fits =
       let sizes = line (codes "order") (n ∷ k ∷ []) in

@@ -18,10 +18,10 @@ use Rattle.text.specs.Decimal.{codes, decimal}
 use Rattle.sheet.specs.Sheet.{Stage, flat}
 use Rattle.bits.specs.Padded.{paddedTo}
 use Rattle.sheet.proofs.LayLaws.{flat-length}
-use Rattle.promise.specs.Series.{tickIn}
+use Rattle.promise.specs.Series.{wordsOfTick}
 use Rattle.lines.specs.Line.{lineEnd}
 use Rattle.list.specs.Listing.{tickLine}
-use Rattle.list.specs.Inside.{counted}
+use Rattle.list.specs.Inside.{countedStages}
 
 module _ (k : ℕ) (l : List ℕ) where
   abbrev ticks : ℕ
@@ -39,7 +39,7 @@ module _ (k : ℕ) (l : List ℕ) where
     lines-more h =
         rw (drop-cons lines c [] (omega (arith, in-order-length ticks (tickLine k l))), in-order-at ticks (tickLine k l) [] c h, add-one, flatten)
 
-    pub ticks-more : c < ticks → ticksFrom c ≡ decimal c ++ (code ":" ∷ (lineEnd (tickIn k l c) ++ ticksFrom (c + 1)))
+    pub ticks-more : c < ticks → ticksFrom c ≡ decimal c ++ (code ":" ∷ (lineEnd (wordsOfTick k l c) ++ ticksFrom (c + 1)))
     unfolding codes
     ticks-more h = lines-more h ∙ simp append-assoc
 
@@ -47,11 +47,11 @@ module _ (k : ℕ) (l : List ℕ) where
     unfolding flatten
     ticks-done h = rw (drop-of-length-le lines {i = c} (omega (arith, in-order-length ticks (tickLine k l))))
 
-    pub tick-part : {start end : ℕ} → start ≡ c * 2 ^ k → end ≡ start + 2 ^ k → end ≤ length l → take (end - start) (drop start l) ≡ tickIn k l c
+    pub tick-part : {start end : ℕ} → start ≡ c * 2 ^ k → end ≡ start + 2 ^ k → end ≤ length l → take (end - start) (drop start l) ≡ wordsOfTick k l c
     tick-part {start} {end} at-tick to-next within =
         in-order-is (2 ^ k) (λ p. getD l (wordAt k c p) 0) 0 (take (end - start) (drop start l))
         (omega (arith, length-take (end - start) (drop start l), length-drop start l))
         (λ p h. getD-take (end - start) (drop start l) p 0 (omega arith) ∙ getD-drop start l p 0 ∙ ap (λ (i : ℕ). getD l (i + p) 0) at-tick)
 
-pub counted-stages : (ss : List Stage) → counted (paddedTo 17 (length ss ∷ flat ss)) ≡ length ss ∷ flat ss
+pub counted-stages : (ss : List Stage) → countedStages (paddedTo 17 (length ss ∷ flat ss)) ≡ length ss ∷ flat ss
 counted-stages ss = take-at (length ss ∷ flat ss) (replicate (17 - suc (length (flat ss))) 0) (1 + 2 * length ss) (omega (arith, flat-length ss))

@@ -16,16 +16,15 @@ use Rattle.text.specs.Decimal.{codes}
 use Rattle.order.specs.Order.{Order}
 use Rattle.sheet.specs.Sheet.{Side, flat, laidOut}
 use Rattle.bits.specs.Padded.{paddedTo}
-use Rattle.sheet.specs.Layout.{Layable}
 use Rattle.bits.proofs.PaddedLaws.{padded-length}
-use Rattle.sheet.proofs.LayLaws.{flat-length}
+use Rattle.sheet.proofs.LayLaws.{flat-length, Layable}
 use Rattle.plan.specs.Planned.{plannedRead, plannedWrite, plannedSheet}
 use Rattle.plan.proofs.ChoiceLaws.{read-layable}
 use Rattle.plan.proofs.PlannedLaws.{write-layable}
 use Rattle.trial.specs.Trial.{lampOrder}
 use Rattle.lines.specs.Line.{line}
 use Rattle.list.specs.Listing.{stageLine, tickLine, listing}
-use Rattle.list.specs.Inside.{counted, Counted, tickLines, writeCount, readCount, Tried, trialText}
+use Rattle.list.specs.Inside.{countedStages, Counted, tickLines, writeCount, readCount, Tried, trialText}
 use Rattle.list.proofs.TickLaws.{counted-stages}
 
 module _ {n k : ℕ} {S : Side} (layable : Layable edition1 n k S) where
@@ -63,8 +62,8 @@ module _ {n k : ℕ} {S : Side} (layable : Layable edition1 n k S) where
       let ss = S .stages in
       ap (λ (i : ℕ). length ss ∷ (flat ss ++ replicate i 0)) {x = 16 - length (flat ss)} {y = 17 - suc (length (flat ss))} (omega arith)
 
-  rest-counted : counted rest ≡ length (S .stages) ∷ flat (S .stages)
-  rest-counted = ap counted rest-padded ∙ counted-stages (S .stages)
+  rest-counted : countedStages rest ≡ length (S .stages) ∷ flat (S .stages)
+  rest-counted = ap countedStages rest-padded ∙ counted-stages (S .stages)
 
   rest-places : Counted rest
   rest-places = record { places = rest-length; stages = layable .stages }
@@ -130,7 +129,7 @@ module _ {n k : ℕ} {C : List ℕ} (sized : Sized edition1 n k) (order : Order 
   pub planned-text : trialText n k (plannedSheet edition1 n k C) lamps ≡ listing n k C
   planned-text =
       let same = ap₂ (λ (w r : List ℕ). line (codes "write") w ++ (line (codes "read") r ++ tickLines k lamps))
-      (ap counted write-rest ∙ rest-counted write) (ap counted read-rest ∙ rest-counted read) in
+      (ap countedStages write-rest ∙ rest-counted write) (ap countedStages read-rest ∙ rest-counted read) in
       ap (λ (l : List ℕ). line (codes "order") (n ∷ k ∷ []) ++ l) same
       ∙ ap (λ (m : ℕ). line (codes "order") (n ∷ k ∷ []) ++ (stageLine (codes "write") (plannedWrite n k C .stages)
       ++ (stageLine (codes "read") (plannedRead n k C .stages) ++ flatten (inOrder m (tickLine k lamps))))) lamps-ticks

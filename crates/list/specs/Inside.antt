@@ -1,6 +1,6 @@
 -- What the functions inside the crate promise one another.
 --   tickLines k l           a line for each tick of the frame l
---   counted l               the count that stands first in l, and as many stages after it: "stage count, then each direction and control"
+--   countedStages l               the count that stands first in l, and as many stages after it: "stage count, then each direction and control"
 --   Counted l               l is the places of a side from its count on
 --   Frames k l              the frame l has whole ticks, and is no longer than the longest
 --   writeCount s, readCount s     the places of either side of the sheet s from its count on
@@ -17,13 +17,13 @@ use Rattle.text.specs.Decimal.{codes}
 use Rattle.order.specs.Order.{Order}
 use Rattle.lines.specs.Line.{line}
 use Rattle.list.specs.Listing.{tickLine}
-use Rattle.list.specs.Tool.{room}
+use Rattle.list.specs.Tool.{textPlaces}
 
 abbrev pub tickLines : ℕ → List ℕ → List ℕ
 tickLines k l = flatten (inOrder (length l / 2 ^ k) (tickLine k l))
 
-abbrev pub counted : List ℕ → List ℕ
-counted l = take (1 + 2 * getD l 0 0) l
+abbrev pub countedStages : List ℕ → List ℕ
+countedStages l = take (1 + 2 * getD l 0 0) l
 
 pub record Counted (l : List ℕ) : Type 0 where
   pub places : length l ≡ 1 + 2 * edition1 .most-stages
@@ -48,9 +48,9 @@ pub record Tried (k : ℕ) (s f : List ℕ) : Type 0 where
 
 abbrev pub trialText : ℕ → ℕ → List ℕ → List ℕ → List ℕ
 trialText n k s f =
-    line (codes "order") (n ∷ k ∷ []) ++ (line (codes "write") (counted (writeCount s)) ++ (line (codes "read") (counted (readCount s)) ++ tickLines k f))
+    line (codes "order") (n ∷ k ∷ []) ++ (line (codes "write") (countedStages (writeCount s)) ++ (line (codes "read") (countedStages (readCount s)) ++ tickLines k f))
 
 pub record Listable (n k : ℕ) (C x : List ℕ) : Type 0 where
   pub sized : Sized edition1 n k
   pub order : Order n C
-  pub places : room ≤ length x
+  pub places : textPlaces ≤ length x

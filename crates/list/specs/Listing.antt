@@ -11,7 +11,7 @@ use Rattle.kinds.specs.Refusal.{numberOf}
 use Rattle.kinds.specs.declared.Refusal.{Refusal}
 use Rattle.text.specs.Decimal.{codes, decimal}
 use Rattle.sheet.specs.Sheet.{Stage, flat}
-use Rattle.promise.specs.Series.{tickIn}
+use Rattle.promise.specs.Series.{wordsOfTick}
 use Rattle.plan.specs.Planned.{plannedRead, plannedWrite}
 use Rattle.trial.specs.Trial.{lampOrder}
 use Rattle.lines.specs.Line.{line}
@@ -20,7 +20,7 @@ abbrev pub stageLine : List ℕ → List Stage → List ℕ
 stageLine name ss = line name (length ss ∷ flat ss)
 
 abbrev pub tickLine : ℕ → List ℕ → ℕ → List ℕ
-tickLine k l c = line (decimal c ++ codes ":") (tickIn k l c)
+tickLine k l c = line (decimal c ++ codes ":") (wordsOfTick k l c)
 
 abbrev pub listing : ℕ → ℕ → List ℕ → List ℕ
 listing n k C =

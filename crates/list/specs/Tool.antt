@@ -1,15 +1,15 @@
 -- The listing as a tool.
---   room                   the places that a text buffer must have at least: enough for every listing
---   listLengths t l        the lengths of the lent text buffer t and of the place l for the length of the text, and what they should be. Places beyond room don't count
+--   textPlaces                   the places that a text buffer must have at least: enough for every listing
+--   listLengths t l        the lengths of the lent text buffer t and of the place l for the length of the text, and what is wanted of them
 -- For every decision d of whether the card b is readable:
---   listed d               the text for the order on the card
+--   listingOf d               the text for the order on the card
 --   textFor o d            the text where nothing is refused; where the refusal o is given, its line
 --   printed e d            what the program prints for the card: the text, or the refusal's line
 --   Lists e b t t' l l' r  the tool: r is 15, or the lowest of 1 to 4 that applies; done, the text stands from the first place of t' on, the rest of t' is as it came, and l' is its length;
 --                          refused, t' is t and l' is l
 --   PrintsAs e d t t' r    what is printed stands from the first place of t' on, the rest of t' is as it came, and r is its length
 --   Prints e b t t' r      the program's text
-use Prim.Native.Nat.{ℕ, min}
+use Prim.Native.Nat.{ℕ}
 use mathlib.Core.Path.{_≡_}
 use mathlib.Core.List.{List, [], _∷_}
 use mathlib.Core.Option.{Option, none, some}
@@ -20,25 +20,26 @@ use Rattle.kinds.specs.First.{firstOf}
 use Rattle.kinds.specs.Refusal.{said}
 use Rattle.kinds.specs.declared.Answer.{Answer}
 use Rattle.kinds.specs.declared.Refusal.{Refusal}
+use Rattle.kinds.specs.Lengths.{Wanted, exactly, atLeast}
 use Rattle.card.specs.Card.{Readable, nOn, kOn, columnsOn, cardTable}
 use Rattle.list.specs.Listing.{listing, refusalLine}
 
-abbrev pub room : ℕ
-room = 8192
+abbrev pub textPlaces : ℕ
+textPlaces = 8192
 
-abbrev pub listLengths : List ℕ → List ℕ → List (ℕ × ℕ)
-listLengths t l = (min room (length t), room) ∷ (length l, 1) ∷ []
+abbrev pub listLengths : List ℕ → List ℕ → List (ℕ × Wanted)
+listLengths t l = (length t, atLeast textPlaces) ∷ (length l, exactly 1) ∷ []
 
-abbrev pub listed : {b : List ℕ} → Dec (Readable b) → List ℕ
-listed d = listing (nOn d) (kOn d) (columnsOn d)
+abbrev pub listingOf : {b : List ℕ} → Dec (Readable b) → List ℕ
+listingOf d = listing (nOn d) (kOn d) (columnsOn d)
 
 abbrev pub Lists : Edition → List ℕ → List ℕ → List ℕ → List ℕ → List ℕ → Answer → Type 0
 Lists e b t t' l l' r =
     (d : Dec (Readable b))
-    → Answers (cardTable e d (listLengths t l)) (said r) ((t' ≡ onto (listed d) t) × (l' ≡ length (listed d) ∷ [])) ((t' ≡ t) × (l' ≡ l))
+    → Answers (cardTable e d (listLengths t l)) (said r) ((t' ≡ onto (listingOf d) t) × (l' ≡ length (listingOf d) ∷ [])) ((t' ≡ t) × (l' ≡ l))
 
 abbrev pub textFor : {b : List ℕ} → Option Refusal → Dec (Readable b) → List ℕ
-textFor none d = listed d
+textFor none d = listingOf d
 textFor (some x) d = refusalLine x
 
 abbrev pub printed : {b : List ℕ} → Edition → Dec (Readable b) → List ℕ

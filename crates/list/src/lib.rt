@@ -5,13 +5,13 @@ ghost use Prim.Native.Nat.{_≤_, min};
 ghost use lib.ListN.{length};
 ghost use Rattle.kinds.specs.Answers.{Says};
 ghost use Rattle.kinds.specs.Edition.{edition1};
-ghost use Rattle.kinds.specs.Reasons.{RightLengths};
+ghost use Rattle.kinds.specs.Lengths.{exactly, atLeast, RightLengths};
 ghost use Rattle.bits.specs.Padded.{paddedTo};
 ghost use Rattle.lines.specs.Line.{line};
 ghost use Rattle.lines.specs.Written.{Fits, Writes};
 ghost use Rattle.list.specs.Listing.{listing};
-ghost use Rattle.list.specs.Tool.{room, Lists, Prints};
-ghost use Rattle.list.specs.Inside.{counted, Counted, tickLines, Frames, Tried, trialText, Listable};
+ghost use Rattle.list.specs.Tool.{textPlaces, Lists, Prints};
+ghost use Rattle.list.specs.Inside.{countedStages, Counted, tickLines, Frames, Tried, trialText, Listable};
 use kinds::Answer;
 
 // Enough for every listing.
@@ -44,7 +44,7 @@ pub fn list(card: &[u8], text: &mut [u8], length: &mut [u32]) -> Answer
 }
 
 fn lent_right(text: usize, lengths: usize) -> bool
-    ensures { λ r. ⌜ Says r (RightLengths ((min room text, room) ∷ (lengths, 1) ∷ [])) ⌝ }
+    ensures { λ r. ⌜ Says r (RightLengths ((text, atLeast textPlaces) ∷ (lengths, exactly 1) ∷ [])) ⌝ }
 {
     if text < ROOM {
         return false;
@@ -96,8 +96,8 @@ fn put_trial(text: &mut [u8], n: u32, k: u32, sheet: &[u16], frame: &[u32]) -> u
 // A line for one side: the count, and then as many stages.
 fn put_side(text: &mut [u8], at: usize, name: &[u8], places: &[u16]) -> usize
     requires { ⌜ Counted (now places) ⌝ }
-    requires { ⌜ Fits (line (now name) (counted (now places))) at (now text) ⌝ }
-    ensures { λ r. ⌜ Writes (line (now (name .entry)) (counted (now (places .entry)))) at (now (text .entry)) (now (text .exit)) r ⌝ }
+    requires { ⌜ Fits (line (now name) (countedStages (now places))) at (now text) ⌝ }
+    ensures { λ r. ⌜ Writes (line (now (name .entry)) (countedStages (now (places .entry)))) at (now (text .entry)) (now (text .exit)) r ⌝ }
 {
     let end = 1 + 2 * places[0] as usize;
     let numbers = widened(&places[0..end]);

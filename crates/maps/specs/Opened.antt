@@ -27,6 +27,7 @@ use Rattle.kinds.specs.Answers.{Checks, Answers}
 use Rattle.kinds.specs.declared.Answer.{Answer}
 use Rattle.kinds.specs.declared.Answer.the-variants.{Done, Refused}
 use Rattle.kinds.specs.declared.Refusal.{Refusal}
+use Rattle.kinds.specs.Lengths.{exactly}
 use Rattle.bits.specs.Image.{AllBelow}
 use Rattle.sheet.specs.Sheet.{Side, writeSide, readSide, flat}
 use Rattle.bits.specs.Padded.{arrayWidth, padded}
@@ -93,4 +94,4 @@ AreColumns o r = (n k : ℕ) (S : Side) → Shows n k o S → r ≡ padded (cell
 abbrev pub ListsCells : OpenSide → ℕ → List ℕ → List ℕ → Answer → Type 0
 ListsCells o c out out' r =
     (n k : ℕ) (S : Side) → Shows n k o S
-    → Answers (wrongLength ((length out, 2 ^ k) ∷ []) ∷ []) (said r) (out' ≡ inOrder (2 ^ k) (cellAt k S c)) (out' ≡ out)
+    → Answers (wrongLength ((length out, exactly (2 ^ k)) ∷ []) ∷ []) (said r) (out' ≡ inOrder (2 ^ k) (cellAt k S c)) (out' ≡ out)

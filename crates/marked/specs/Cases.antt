@@ -1,9 +1,9 @@
 -- The cases that 01 marks, in its order ('Frames we tried by hand').
 --   Case                      what 01 says of one: the stages of a plan, its addresses and wirings, a frame out, a refusal of the planner, a verdict of the inspector
---   Holds c                   01 is right about it, on the written meanings
---   Each cs                   01 is right about each case of cs
+--   AsSaid c                   01 is right about it, on the written meanings
+--   EachAsSaid cs                   01 is right about each case of cs
 --   reversal                  the sheet planned for bit reversal
---   marked                    the cases
+--   markedCases                    the cases
 use Prim.Native.Nat.{ℕ}
 use mathlib.Core.Path.{_≡_}
 use mathlib.Core.List.{List, [], _∷_}
@@ -15,7 +15,7 @@ use Rattle.kinds.specs.Refusal.{given}
 use Rattle.sheet.specs.Sheet.{flat}
 use Rattle.plan.specs.Planned.{plannedRead, plannedWrite, plannedSheet}
 use Rattle.plan.specs.Tool.{planTable}
-use Rattle.trial.specs.Trial.{tickOut}
+use Rattle.trial.specs.Trial.{leavesInTick}
 use Rattle.inspect.specs.Tool.{inspectTable}
 
 pub data Case : Type 0 where
@@ -28,23 +28,23 @@ pub data Case : Type 0 where
   refusal : (n k : ℕ) (C : List ℕ) (number : ℕ) → Case
   verdict : (n k : ℕ) (C sheet : List ℕ) (number : ℕ) → Case
 
-abbrev pub Holds : Case → Type 0
-Holds (stages n k C write read) = (flat (plannedWrite n k C .stages) ≡ write) × (flat (plannedRead n k C .stages) ≡ read)
-Holds (columns n k C wa ra ww rw) =
+abbrev pub AsSaid : Case → Type 0
+AsSaid (stages n k C write read) = (flat (plannedWrite n k C .stages) ≡ write) × (flat (plannedRead n k C .stages) ≡ read)
+AsSaid (columns n k C wa ra ww rw) =
     (plannedWrite n k C .addresses ≡ wa) × (plannedRead n k C .addresses ≡ ra) × (plannedWrite n k C .wiring ≡ ww) × (plannedRead n k C .wiring ≡ rw)
-Holds (frameOut n k C out) = inOrder (ticks n k) (tickOut edition1 n k (plannedSheet edition1 n k C)) ≡ out
-Holds (refusal n k C number) = given (firstOf (planTable edition1 n k C (replicate (sheetPlaces edition1) 0))) ≡ number
-Holds (verdict n k C sheet number) = given (firstOf (inspectTable edition1 n k C sheet)) ≡ number
+AsSaid (frameOut n k C out) = inOrder (ticks n k) (leavesInTick edition1 n k (plannedSheet edition1 n k C)) ≡ out
+AsSaid (refusal n k C number) = given (firstOf (planTable edition1 n k C (replicate (sheetPlaces edition1) 0))) ≡ number
+AsSaid (verdict n k C sheet number) = given (firstOf (inspectTable edition1 n k C sheet)) ≡ number
 
-abbrev pub Each : List Case → Type 0
-Each [] = Unit
-Each (c ∷ cs) = Holds c × Each cs
+abbrev pub EachAsSaid : List Case → Type 0
+EachAsSaid [] = Unit
+EachAsSaid (c ∷ cs) = AsSaid c × EachAsSaid cs
 
 abbrev pub reversal : List ℕ
 reversal = plannedSheet edition1 3 1 (4 ∷ 2 ∷ 1 ∷ [])
 
-abbrev pub marked : List Case
-marked =
+abbrev pub markedCases : List Case
+markedCases =
     stages 1 1 (1 ∷ []) [] []
     ∷ refusal 1 1 (0 ∷ []) 4
     ∷ refusal 1 1 (2 ∷ []) 3

@@ -7,9 +7,10 @@ use Rattle.kinds.specs.First.{firstOf}
 use Rattle.kinds.specs.Refusal.{given}
 use Rattle.kinds.specs.Search.{someBelow}
 use Rattle.faults.specs.Marks.{put}
-use Rattle.faults.specs.Faults.{countable?}
+use Rattle.faults.specs.Decisions.{countable?}
 use Rattle.memory.specs.Memory.{Memory, Access, served}
-use Rattle.memory.specs.Serving.{fitting?, serveTable}
+use Rattle.memory.specs.Serving.{serveTable}
+use Rattle.memory.specs.Decisions.{fitting?}
 
 computed : Unit {0}
 unfolding firstOf fitting? countable? decLe decLt ℕ-discrete someBelow put

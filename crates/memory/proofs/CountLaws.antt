@@ -13,7 +13,7 @@ use lib.ListN.{length, getD, set, length-set}
 use lib.Seq.{getD-set-same, getD-set-other}
 use Rattle.kinds.proofs.TruthLaws.{stable}
 use Rattle.bits.specs.Image.{AllBelow}
-use Rattle.faults.specs.Marks.{put, marked}
+use Rattle.faults.specs.Marks.{put, withMarks}
 use Rattle.faults.specs.Faults.{SomeFilled, SomeEmpty}
 use Rattle.faults.proofs.MarkLaws.{put-length, put-other}
 use Rattle.faults.proofs.FaultLaws.{Different}
@@ -48,7 +48,7 @@ put-in (x ∷ cs) (v ∷ vs) l different inside each (suc p) h =
 
 marks-changed : (u v : ℕ) (cs l : List ℕ) → Different cs → AllBelow (length l) cs
     → ((p : ℕ) → p < length cs → filledMarks (getD l (getD cs p 0) 0 ∷ []) ≡ u)
-    → filledMarks (marked v cs l) + length cs * u ≡ filledMarks l + length cs * filledMarks (v ∷ [])
+    → filledMarks (withMarks v cs l) + length cs * u ≡ filledMarks l + length cs * filledMarks (v ∷ [])
 unfolding put
 marks-changed u v [] l different inside old = omega arith
 marks-changed u v (x ∷ cs) l different inside old =
@@ -70,12 +70,12 @@ mark-of zero h = absurd (h refl)
 mark-of (suc v) h = refl
 
 module _ (cs l : List ℕ) (different : Different cs) (inside : AllBelow (length l) cs) where
-  marks-filled : ¬ SomeFilled l cs → filledMarks (marked 1 cs l) ≡ filledMarks l + length cs
+  marks-filled : ¬ SomeFilled l cs → filledMarks (withMarks 1 cs l) ≡ filledMarks l + length cs
   unfolding filledMarks
   marks-filled empty =
       omega (arith, marks-changed 0 1 cs l different inside (λ p h. rw (stable (ℕ-discrete (getD l (getD cs p 0) 0) 0) (λ filled. empty (p, h, filled)))))
 
-  marks-emptied : ¬ SomeEmpty l cs → filledMarks (marked 0 cs l) + length cs ≡ filledMarks l
+  marks-emptied : ¬ SomeEmpty l cs → filledMarks (withMarks 0 cs l) + length cs ≡ filledMarks l
   unfolding filledMarks
   marks-emptied filled =
       omega (arith, marks-changed 1 0 cs l different inside (λ p h. mark-of (getD l (getD cs p 0) 0) (λ e. filled (p, h, λ f. f e))))
@@ -88,11 +88,11 @@ module _ (A : Access) (m : Memory) (writes-apart : Different (A .writes)) (reads
       omega (
         arith,
         marks-emptied (A .reads) (m .marks) reads-apart reads-inside filled,
-        marks-filled (A .writes) (marked 0 (A .reads) (m .marks)) writes-apart (λ p h. rw put-length (writes-inside p h)) still-empty,
+        marks-filled (A .writes) (withMarks 0 (A .reads) (m .marks)) writes-apart (λ p h. rw put-length (writes-inside p h)) still-empty,
       )
     where
       -- a cell that is read is filled, so it is none of those that are written
-      still-empty : ¬ SomeFilled (marked 0 (A .reads) (m .marks)) (A .writes)
+      still-empty : ¬ SomeFilled (withMarks 0 (A .reads) (m .marks)) (A .writes)
       still-empty (p, h, f) = empty (
         p,
         h,

@@ -1,3 +1,4 @@
 -- The memory, and a call that is served over any cells.
 pub mod Memory
+pub mod Decisions
 pub mod Serving

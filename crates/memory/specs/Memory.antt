@@ -7,10 +7,12 @@
 --   wordsAt cs l         the words in the cells cs, where l is the words of the memory
 --   Access               what a call does: which cells it writes, by port, with which words, and which cells it reads, by port
 --   served A m           the memory after the reads, and then the writes
-use Prim.Native.Nat.{ℕ, zero, suc}
+--   Fitting writes came reads out      as many words as cells to be written, and a place of the out buffer for each that is read; the four are lengths
+use Prim.Native.Nat.{ℕ, zero, suc, _≤_}
+use mathlib.Core.Path.{_≡_}
 use mathlib.Core.List.{List, [], _∷_, map}
 use lib.ListN.{getD}
-use Rattle.faults.specs.Marks.{put, marked}
+use Rattle.faults.specs.Marks.{put, withMarks}
 
 pub record Memory : Type 0 where
   pub words : List ℕ
@@ -22,10 +24,10 @@ filledMarks (zero ∷ l) = filledMarks l
 filledMarks (suc v ∷ l) = suc (filledMarks l)
 
 abbrev pub stored : List ℕ → List ℕ → Memory → Memory
-stored cs ws m = record { words = put cs ws (m .words); marks = marked 1 cs (m .marks) }
+stored cs ws m = record { words = put cs ws (m .words); marks = withMarks 1 cs (m .marks) }
 
 abbrev pub emptied : List ℕ → Memory → Memory
-emptied cs m = record { words = m .words; marks = marked 0 cs (m .marks) }
+emptied cs m = record { words = m .words; marks = withMarks 0 cs (m .marks) }
 
 abbrev pub wordsAt : List ℕ → List ℕ → List ℕ
 wordsAt cs l = map (λ x. getD l x 0) cs
@@ -37,3 +39,7 @@ pub record Access : Type 0 where
 
 abbrev pub served : Access → Memory → Memory
 served A m = stored (A .writes) (A .words) (emptied (A .reads) m)
+
+pub record Fitting (writes came reads out : ℕ) : Type 0 where
+  pub a-word-each : came ≡ writes
+  pub room : reads ≤ out

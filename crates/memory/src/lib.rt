@@ -4,9 +4,9 @@ ghost use native.Mathlib.Decide.{decLe, ℕ-discrete};
 ghost use lib.ListN.{length, getD, set};
 ghost use Rattle.kinds.specs.Answers.{Says, onto};
 ghost use Rattle.kinds.specs.Decided.{ifHolds};
-ghost use Rattle.faults.specs.Marks.{put, marked};
-ghost use Rattle.memory.specs.Memory.{wordsAt};
-ghost use Rattle.memory.specs.Serving.{Fitting, Serves};
+ghost use Rattle.faults.specs.Marks.{put, withMarks};
+ghost use Rattle.memory.specs.Memory.{wordsAt, Fitting};
+ghost use Rattle.memory.specs.Serving.{Serves};
 use kinds::Answer;
 use kinds::Refusal;
 
@@ -54,7 +54,7 @@ pub fn take_out(cells: &[u32], out: &mut [u32], words: &[u32], marks: &mut [u8])
     ensures { λ r. ⌜ now (out .exit) ≡ ifHolds (decLe (length (now (cells .entry))) (length (now (out .entry))))
         (onto (wordsAt (now (cells .entry)) (now (words .entry))) (now (out .entry))) (now (out .entry)) ⌝ }
     ensures { λ r. ⌜ now (marks .exit) ≡ ifHolds (decLe (length (now (cells .entry))) (length (now (out .entry))))
-        (marked 0 (now (cells .entry)) (now (marks .entry))) (now (marks .entry)) ⌝ }
+        (withMarks 0 (now (cells .entry)) (now (marks .entry))) (now (marks .entry)) ⌝ }
 {
     if out.len() < cells.len() {
         return;
@@ -73,7 +73,7 @@ pub fn store(cells: &[u32], came: &[u32], words: &mut [u32], marks: &mut [u8])
     ensures { λ r. ⌜ now (words .exit) ≡ ifHolds (ℕ-discrete (length (now (came .entry))) (length (now (cells .entry))))
         (put (now (cells .entry)) (now (came .entry)) (now (words .entry))) (now (words .entry)) ⌝ }
     ensures { λ r. ⌜ now (marks .exit) ≡ ifHolds (ℕ-discrete (length (now (came .entry))) (length (now (cells .entry))))
-        (marked 1 (now (cells .entry)) (now (marks .entry))) (now (marks .entry)) ⌝ }
+        (withMarks 1 (now (cells .entry)) (now (marks .entry))) (now (marks .entry)) ⌝ }
 {
     if came.len() != cells.len() {
         return;

@@ -15,7 +15,9 @@ use native.Mathlib.Omega.{arith}
 use lib.ListN.{length, getD}
 use Rattle.kinds.specs.First.{firstOf, Ascending}
 use Rattle.kinds.specs.Answers.{Checks}
-use Rattle.kinds.specs.Reasons.{outside, RightLengths, rightLengths?}
+use Rattle.kinds.specs.Reasons.{outside}
+use Rattle.kinds.specs.Lengths.{Wanted, exactly, RightLengths}
+use Rattle.kinds.specs.Decisions.{rightLengths?}
 use Rattle.kinds.specs.Refusal.{said}
 use Rattle.kinds.specs.declared.Answer.{Answer}
 use Rattle.kinds.specs.declared.Answer.the-variants.{Refused}
@@ -23,9 +25,9 @@ use Rattle.kinds.specs.declared.Refusal.the-variants.{Sizes}
 use Rattle.kinds.proofs.TruthLaws.{stable}
 use Rattle.kinds.proofs.FirstLaws.{first-take, first-skip, first-none}
 use Rattle.bits.specs.Image.{AllBelow}
-use Rattle.span.specs.Sums.{independent?}
-use Rattle.order.specs.Order.{Order}
-use Rattle.order.specs.Table.{ColumnTooLarge, tooLarge, columnTable, orderTable}
+use Rattle.span.specs.Decisions.{independent?}
+use Rattle.order.specs.Order.{Order, ColumnTooLarge}
+use Rattle.order.specs.Table.{tooLarge, columnTable, orderTable}
 use Rattle.order.specs.Inside.{ChecksColumns}
 use Rattle.order.specs.declared.Checked.{Checked}
 
@@ -42,15 +44,15 @@ module _ {S : Type 0} (sized : Dec S) (n : ℕ) (C : List ℕ) where
   pub within-sizes : (fits : Bool) {r : Checked} → S → ChecksColumns n C fits r → Checks (orderTable sized n C) fits (r .answer)
   within-sizes fits s j others f = j .answer others f ∙ sym (first-skip (outside sized) (columnTable n (C ∷ []) others) (λ out. out s))
 
-  pub order-ascending : (others : List (ℕ × ℕ)) → Ascending (orderTable sized n C others)
+  pub order-ascending : (others : List (ℕ × Wanted)) → Ascending (orderTable sized n C others)
   order-ascending others =
       ((omega arith, (omega arith, (omega arith, tt))), ((omega arith, (omega arith, tt)), ((omega arith, tt), (tt, tt))))
 
-  pub order-sound : (others : List (ℕ × ℕ)) → firstOf (orderTable sized n C others) ≡ none ↔ (S × RightLengths others × Order n C)
+  pub order-sound : (others : List (ℕ × Wanted)) → firstOf (orderTable sized n C others) ≡ none ↔ (S × RightLengths others × Order n C)
   order-sound others = (
     λ e.
         let none-applies = first-none (orderTable sized n C others) .0 e in
-        let right = stable (rightLengths? ((length C, n) ∷ others)) (none-applies .1 .0) in
+        let right = stable (rightLengths? ((length C, exactly n) ∷ others)) (none-applies .1 .0) in
         let order : Order n C = record {
           count = right .0;
           below = not-large n C (none-applies .1 .1 .0);

@@ -8,7 +8,8 @@ use mathlib.Core.Path.{_≡_, sym, ap, _∙_}
 use mathlib.Core.List.{List}
 use mathlib.Core.Option.{none}
 use lib.ListN.{length}
-use Rattle.kinds.specs.Edition.{Edition, SizedN, sizedN?}
+use Rattle.kinds.specs.Edition.{Edition, SizedN}
+use Rattle.kinds.specs.Decisions.{sizedN?}
 use Rattle.kinds.specs.Refusal.{said}
 use Rattle.kinds.specs.First.{firstOf}
 use Rattle.kinds.specs.declared.Answer.{Answer}

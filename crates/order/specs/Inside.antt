@@ -4,24 +4,25 @@
 --   ChecksAndScans n C fits r  the same of 1 to 4, for a tool that takes no k
 --   UndoesHeld scan m m'       whatever order the scan holds, of as many columns as m has, m' undoes it
 --   Steps C s                  s[j] is the sum of columns 0 to j: what the place changes by, from a number to the next, where the next ends in j zeros
---   Frames n C f g             an order, and two frames
+--   TwoFrames n C f g          an order, and two frames
 use Prim.Native.Nat.{ℕ, _+_, _-_, _^_, _<_, _≤_}
 use mathlib.Core.Path.{_≡_}
 use mathlib.Core.Bool.{Bool}
 use mathlib.Core.List.{List, [], _∷_}
 use lib.ListN.{length, getD}
-use Rattle.kinds.specs.Edition.{edition1, sizedN?}
+use Rattle.kinds.specs.Edition.{edition1}
+use Rattle.kinds.specs.Decisions.{sizedN?}
 use Rattle.kinds.specs.Answers.{Checks}
 use Rattle.kinds.specs.declared.Answer.the-variants.{Done}
 use Rattle.span.specs.Held.{Holds}
-use Rattle.span.specs.Tools.{room}
+use Rattle.span.specs.Tools.{mostScanned}
 use Rattle.span.specs.declared.Scan.{Scan}
 use Rattle.order.specs.Order.{place, Order, Undoes}
 use Rattle.order.specs.Table.{columnTable, orderTable}
 use Rattle.order.specs.declared.Checked.{Checked}
 
 abbrev pub Few : List ℕ → Type 0
-Few C = length C ≤ room
+Few C = length C ≤ mostScanned
 
 pub record ChecksColumns (n : ℕ) (C : List ℕ) (fits : Bool) (r : Checked) : Type 0 where
   pub answer : Checks (columnTable n (C ∷ [])) fits (r .answer)
@@ -37,7 +38,7 @@ UndoesHeld scan m m' = (C : List ℕ) → Holds scan C → Order (length m) C �
 abbrev pub Steps : List ℕ → List ℕ → Type 0
 Steps C s = (j : ℕ) → j < length C → getD s j 0 ≡ place C (2 ^ (j + 1) - 1)
 
-pub record Frames (n : ℕ) (C f g : List ℕ) : Type 0 where
+pub record TwoFrames (n : ℕ) (C f g : List ℕ) : Type 0 where
   pub few : Few C
   pub order : Order n C
   pub came : length f ≡ 2 ^ n

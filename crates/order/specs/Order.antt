@@ -1,9 +1,10 @@
 -- What an order is (01, 'Orders, ticks and ports').
 --   place C i       P i: the place at which word i leaves under the order with the columns C
 --   Order n C       C is an order of the 2^n words of a frame
+--   ColumnTooLarge n C   a column of C is 2^n or more
 --   Undoes n C D    D is n columns that bring each word home, whichever of C and D comes first
 --   Moved n C f g   g is the frame f put in order: word i of f stands at place P i
-use Prim.Native.Nat.{ℕ, _^_, _<_}
+use Prim.Native.Nat.{ℕ, _^_, _<_, _≤_}
 use mathlib.Core.Path.{_≡_}
 use mathlib.Core.List.{List}
 use lib.ListN.{length, getD}
@@ -17,6 +18,9 @@ pub record Order (n : ℕ) (C : List ℕ) : Type 0 where
   pub count : length C ≡ n
   pub below : AllBelow (2 ^ n) C
   pub independent : Independent C
+
+abbrev pub ColumnTooLarge : ℕ → List ℕ → Type 0
+ColumnTooLarge n C = (j : ℕ) × (j < length C) × (2 ^ n ≤ getD C j 0)
 
 pub record Undoes (n : ℕ) (C D : List ℕ) : Type 0 where
   pub count : length D ≡ n

@@ -4,12 +4,13 @@ ghost use mathlib.Core.List.{[], _∷_};
 ghost use Prim.Native.Nat.{_^_};
 ghost use lib.ListN.{length};
 ghost use Rattle.kinds.specs.Answers.{Says, Checks};
-ghost use Rattle.kinds.specs.Edition.{edition1, sizedN?, sized?};
-ghost use Rattle.kinds.specs.Reasons.{RightLengths};
+ghost use Rattle.kinds.specs.Edition.{edition1};
+ghost use Rattle.kinds.specs.Decisions.{sizedN?, sized?};
+ghost use Rattle.kinds.specs.Lengths.{exactly, RightLengths};
 ghost use Rattle.order.specs.Order.{Moved};
 ghost use Rattle.order.specs.Table.{orderTable};
 ghost use Rattle.order.specs.Tools.{Inverts, Moves};
-ghost use Rattle.order.specs.Inside.{Few, ChecksColumns, ChecksAndScans, UndoesHeld, Steps, Frames};
+ghost use Rattle.order.specs.Inside.{Few, ChecksColumns, ChecksAndScans, UndoesHeld, Steps, TwoFrames};
 use kinds::Answer;
 use kinds::Refusal;
 use span::Scan;
@@ -128,7 +129,7 @@ pub fn move_frame(n: u32, columns: &[u16], frame: &[u32], out: &mut [u32]) -> An
 }
 
 fn are_frames(n: u32, came: usize, leaves: usize) -> bool
-    ensures { λ r. ⌜ Says r (RightLengths ((came, 2 ^ n) ∷ (leaves, 2 ^ n) ∷ [])) ⌝ }
+    ensures { λ r. ⌜ Says r (RightLengths ((came, exactly (2 ^ n)) ∷ (leaves, exactly (2 ^ n)) ∷ [])) ⌝ }
 {
     if !bits::is_two_to(came, n) {
         return false;
@@ -138,7 +139,7 @@ fn are_frames(n: u32, came: usize, leaves: usize) -> bool
 
 // From each number to the next the place changes by one step.
 fn move_words(columns: &[u16], frame: &[u32], out: &mut [u32])
-    requires { ⌜ Frames (length (now columns)) (now columns) (now frame) (now out) ⌝ }
+    requires { ⌜ TwoFrames (length (now columns)) (now columns) (now frame) (now out) ⌝ }
     ensures { λ r. ⌜ Moved (length (now (columns .entry))) (now (columns .entry)) (now (frame .entry)) (now (out .exit)) ⌝ }
 {
     let steps = steps_of(columns);

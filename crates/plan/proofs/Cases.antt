@@ -1,4 +1,4 @@
--- Planned sheets, computed on the written meaning; and one order for which the rows of P3, not restricted to the ports that P1 sends to 0, would give another read stage.
+-- Planned sheets of orders that 01 does not mark, computed on the written meaning; and one order for which the rows of P3, not restricted to the ports that P1 sends to 0, would give another read stage.
 use mathlib.Core.Path.{_≡_, refl}
 use mathlib.Core.List.{[], _∷_, map}
 use native.Mathlib.Decide.{ℕ-discrete}
@@ -8,14 +8,13 @@ use Rattle.kinds.specs.Frame.{inOrder}
 use Rattle.kinds.specs.Search.{someBelow, those}
 use Rattle.bits.specs.Image.{image, columns}
 use Rattle.bits.specs.Parity.{parity, dot}
-use Rattle.span.specs.Sums.{sumOf?}
+use Rattle.span.specs.Decisions.{sumOf?}
 use Rattle.span.specs.Scan.{keptAt, others, mask, masks}
 use Rattle.span.specs.Rows.{dots, rows}
 use Rattle.order.specs.Parts.{rowsP3}
-use Rattle.sheet.proofs.Cases.{reversal}
 use Rattle.switches.specs.Stages.{afterStages}
 use Rattle.switches.specs.Written.{keptStages}
-use Rattle.promise.proofs.Cases.{gray, identity, turning, one-tick}
+use Rattle.promise.proofs.Cases.{identity, turning}
 use Rattle.plan.specs.Planned.{othersOfP1, portsToZero, keptOfP3, readStages, plannedSheet}
 use Rattle.lay.specs.Staged.{pairs}
 
@@ -23,11 +22,8 @@ computed : Unit {0}
 unfolding image columns ℕ-discrete sumOf? someBelow those keptAt others mask masks inOrder dots rows dot parity ones afterStages keptStages othersOfP1 portsToZero keptOfP3 pairs readStages
 computed = tt
 
--- the sheets that were judged and run: bit reversal (write addresses 2 1 0, read addresses 0 1 2, wirings 1), the identity, Gray code, columns 2 3, and one tick
-planned-sheets : map (λ (n, k, C). plannedSheet edition1 n k C) (
-    (3, 1, 4 ∷ 2 ∷ 1 ∷ []) ∷ (2, 1, 1 ∷ 2 ∷ []) ∷ (2, 1, 1 ∷ 3 ∷ []) ∷ (2, 1, 2 ∷ 3 ∷ []) ∷ (2, 2, 2 ∷ 1 ∷ []) ∷ []
-    )
-    ≡ reversal ∷ identity ∷ gray ∷ turning ∷ one-tick ∷ []
+-- sheets that were judged and run: the identity, and columns 2 3
+planned-sheets : map (plannedSheet edition1 2 1) ((1 ∷ 2 ∷ []) ∷ (2 ∷ 3 ∷ []) ∷ []) ≡ identity ∷ turning ∷ []
 unfolding computed
 planned-sheets = refl
 

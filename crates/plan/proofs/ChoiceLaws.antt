@@ -25,7 +25,7 @@ use Rattle.order.specs.Order.{Order}
 use Rattle.order.specs.Parts.{P1, P3, rowsP1, rowsP3}
 use Rattle.order.proofs.PartLaws.{rowsOf-length, rowsOf-below}
 use Rattle.order.proofs.RowLaws.{dots-P1, rows-rank}
-use Rattle.sheet.specs.Layout.{Layable}
+use Rattle.sheet.proofs.LayLaws.{Layable}
 use Rattle.plan.specs.Planned.{othersOfP1, portsToZero, keptOfP3, readStages, plannedRead}
 use Rattle.lay.proofs.PairLaws.{pairs-length, pairs-range}
 use Rattle.plan.proofs.WithLaws.{with-read-layable}

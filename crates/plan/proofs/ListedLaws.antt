@@ -14,15 +14,15 @@ use Rattle.kinds.specs.Frame.{tickBits}
 use Rattle.kinds.specs.Search.{those}
 use Rattle.kinds.proofs.SearchLaws.{those-same}
 use Rattle.kinds.proofs.TruthLaws.{stable, denied, says-no, says-same}
-use Rattle.span.specs.Scan.{sumBefore?, IsKept, keptAt, others, mask}
+use Rattle.span.specs.Scan.{keptAt, others, mask}
 use Rattle.span.specs.Rows.{dots, takenOn}
-use Rattle.span.proofs.ScanLaws.{kept-those, IsKept-prefix}
+use Rattle.span.proofs.ScanLaws.{kept-those, IsKept-prefix, sumBefore?, IsKept}
 use Rattle.span.proofs.TakenLaws.{taken-kept}
 use Rattle.order.specs.Parts.{P1, P3, rowsP1, rowsP3}
 use Rattle.order.proofs.PartLaws.{rowsOf-below}
 use Rattle.order.proofs.RowLaws.{P1-count, P3-count}
 use Rattle.plan.specs.Planned.{othersOfP1, portsToZero, keptOfP3}
-use Rattle.rows.specs.Listed.{keptIn, listed}
+use Rattle.rows.specs.Listed.{keptIn, keptNumbers}
 use Rattle.rows.proofs.KeptLaws.{told}
 use Rattle.plan.proofs.ChoiceLaws.{zero-ports}
 
@@ -34,8 +34,8 @@ module _ (n k : ℕ) (C : List ℕ) (within : k ≤ n) where
   S = rowsP3 n k C
 
   module _ (ms : List ℕ) (masked : (i : ℕ) → i < n → getD ms i 0 ≡ mask (R ++ S) i) where
-    pub others-listed : listed ms 0 k false ≡ othersOfP1 k C
-    unfolding listed othersOfP1 others
+    pub others-listed : keptNumbers ms 0 k false ≡ othersOfP1 k C
+    unfolding keptNumbers othersOfP1 others
     others-listed =
         ap (those (λ j. Bool-discrete (keptIn ms (0 + j)) false)) {x = k - 0} {y = length R} (omega (arith, P1-count k C))
         ∙ those-same (λ j. Bool-discrete (keptIn ms (0 + j)) false) (sumBefore? R) (length R)
@@ -47,8 +47,8 @@ module _ (n k : ℕ) (C : List ℕ) (within : k ≤ n) where
           λ s. says-same (keptIn ms j) false kept (says-no (λ own. prefix .0 own s)),
         ))
 
-    pub kept-listed : listed ms k n true ≡ keptOfP3 n k C
-    unfolding listed keptOfP3
+    pub kept-listed : keptNumbers ms k n true ≡ keptOfP3 n k C
+    unfolding keptNumbers keptOfP3
     kept-listed =
         let T = takenOn (portsToZero k C) S in
         let zeros = zero-ports k C in

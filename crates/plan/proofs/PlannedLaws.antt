@@ -11,8 +11,9 @@ use Rattle.span.specs.Scan.{rank}
 use Rattle.order.specs.Order.{Order}
 use Rattle.order.specs.Parts.{rowsP1}
 use Rattle.sheet.specs.Sheet.{Stage, Side, readSide}
-use Rattle.sheet.specs.Layout.{WellFormed, Layable}
-use Rattle.promise.proofs.ExactLaws.{passes-right, right-stages}
+use Rattle.sheet.specs.Layout.{WellFormed}
+use Rattle.sheet.proofs.LayLaws.{Layable}
+use Rattle.promise.proofs.ExactLaws.{realises-right, right-stages}
 use Rattle.plan.specs.Planned.{StagesInRange, readStages, plannedRead, plannedWrite, plannedSheet}
 use Rattle.plan.specs.Tool.{IsPlanned}
 use Rattle.plan.proofs.ChoiceLaws.{read-count, read-layable}
@@ -52,7 +53,7 @@ module _ {e : Edition} {n k : ℕ} {C : List ℕ} (sized : Sized e n k) (order :
     constructed = refl;
     places = with-length sized order room ss range few;
     formed = formed;
-    right = passes-right within order formed (with-passes sized order room ss range few (wiring-vanish k within order));
+    right = realises-right within order formed (with-passes sized order room ss range few (wiring-vanish k within order));
     stages = sheet-count;
     fewest = λ s formed right. omega (arith, right-stages within order formed right, sheet-count);
   }

@@ -9,13 +9,15 @@
 --   with-out          done, and a stage is out of its range: 5
 --   with-in           done, and all are in range: so is the answer, once the sheet is written
 --   with-right        the sheet with given read stages is right for the order, if the wiring that they leave sends no two ports to one bank
+--   with-fewest       and then a planned sheet has no more read stages than it
 use Prim.Native.Nat.{ℕ, _≤_}
 use mathlib.Core.Path.{_≡_, sym, ap, _∙_}
 use mathlib.Core.List.{List, [], _∷_}
 use mathlib.Core.Option.{none, some}
 use native.Mathlib.Omega.{arith}
 use lib.ListN.{length}
-use Rattle.kinds.specs.Edition.{Edition, edition1, Sized, sized?, sheetPlaces}
+use Rattle.kinds.specs.Edition.{Edition, edition1, Sized, sheetPlaces}
+use Rattle.kinds.specs.Decisions.{sized?}
 use Rattle.kinds.specs.First.{firstOf}
 use Rattle.kinds.specs.Answers.{Answers}
 use Rattle.kinds.specs.Refusal.{said}
@@ -26,16 +28,16 @@ use Rattle.kinds.proofs.FirstLaws.{first-nil, first-take, first-skip, first-non
 use Rattle.kinds.proofs.AnswerLaws.{said-same, said-before, does, done-by, answers-done, answers-same, answers-agree}
 use Rattle.order.specs.Order.{Order}
 use Rattle.order.proofs.TableLaws.{order-sound}
-use Rattle.sheet.specs.Sheet.{Stage}
+use Rattle.sheet.specs.Sheet.{Stage, Side, readSide}
 use Rattle.sheet.specs.Table.{sheetLengths}
-use Rattle.promise.specs.Series.{Right}
-use Rattle.promise.proofs.ExactLaws.{passes-right}
+use Rattle.promise.specs.Right.{Right}
+use Rattle.promise.proofs.ExactLaws.{realises-right}
 use Rattle.lay.specs.Staged.{ShowsStages}
 use Rattle.lay.specs.declared.Stages.{Stages}
-use Rattle.plan.specs.Planned.{StagesInRange, Wires, sheetWith, plannedSheet}
+use Rattle.plan.specs.Planned.{StagesInRange, sheetWith, plannedSheet}
 use Rattle.plan.specs.Tool.{planTable, outOfRange, withTable, IsPlanned, Plans, PlansWith}
 use Rattle.plan.specs.Inside.{Plannable}
-use Rattle.plan.proofs.WithLaws.{wires-vanish, with-formed, with-passes}
+use Rattle.plan.proofs.WithLaws.{Wires, wires-vanish, with-read, with-formed, with-passes}
 use Rattle.plan.proofs.PlannedLaws.{planned}
 
 module _ (e : Edition) (n k : ℕ) (C s : List ℕ) where
@@ -81,7 +83,15 @@ module _ (n k : ℕ) (C s : List ℕ) {a : Answer} (says : said a ≡ firstOf (p
         → Answers (withTable edition1 n k ss C s) (said a) (s' ≡ sheetWith edition1 n k ss C) (s' ≡ s)
     with-in done range = does done (ap said done ∙ sym (passed done ∙ first-skip (outOfRange n k ss) [] (λ out. out range) ∙ first-nil))
 
-pub with-right : {e : Edition} {n k : ℕ} {C : List ℕ} (ss : List Stage) → Sized e n k → Order n C → e .most-k ≤ e .most-stages
-    → StagesInRange n k ss → length ss ≤ e .most-stages → Wires k ss C → Right e n k C (sheetWith e n k ss C)
-with-right {k = k} {C = C} ss sized order room range few wires =
-    passes-right (omega (arith, sized .most)) order (with-formed sized order room ss range few) (with-passes sized order room ss range few (wires-vanish k ss C wires))
+module _ {e : Edition} {n k : ℕ} {C : List ℕ} (ss : List Stage) (sized : Sized e n k) (order : Order n C) (room : e .most-k ≤ e .most-stages)
+    (range : StagesInRange n k ss) (few : length ss ≤ e .most-stages) (wires : Wires k ss C) where
+  pub with-right : Right e n k C (sheetWith e n k ss C)
+  with-right = realises-right (omega (arith, sized .most)) order (with-formed sized order room ss range few) (with-passes sized order room ss range few (wires-vanish k ss C wires))
+
+  pub with-fewest : {s : List ℕ} → IsPlanned e n k C s → length (readSide e n k s .stages) ≤ length ss
+  with-fewest is =
+      omega (
+        arith,
+        is .fewest (sheetWith e n k ss C) (with-formed sized order room ss range few) with-right,
+        ap (λ (S : Side). length (S .stages)) (with-read sized order room ss range few),
+      )

@@ -6,18 +6,19 @@ use mathlib.Core.Path.{_≡_, sym, ap, _∙_}
 use mathlib.Core.List.{List}
 use Rattle.bits.specs.Parity.{bit}
 use Rattle.bits.proofs.XorLaws.{xor-zero-eq}
-use Rattle.span.specs.Scan.{units, over}
+use Rattle.span.specs.Scan.{units}
 use Rattle.span.specs.Rows.{dots, takenOn}
 use Rattle.span.proofs.RowLaws.{dots-lt}
-use Rattle.span.proofs.ScanLaws.{kept-apart}
+use Rattle.span.proofs.ScanLaws.{kept-apart, over}
 use Rattle.span.proofs.RowRankLaws.{vanish-at-kept}
 use Rattle.span.proofs.TakenLaws.{taken-unit}
 use Rattle.span.proofs.PositionLaws.{over-none, units-none, others-independent}
 use Rattle.order.specs.Order.{Order}
 use Rattle.order.specs.Parts.{P1, P3, rowsP1, rowsP3}
 use Rattle.order.proofs.RowLaws.{dots-P1, dots-P3, parts-vanish}
-use Rattle.switches.specs.Stages.{selected}
-use Rattle.plan.specs.Planned.{othersOfP1, portsToZero, keptOfP3, readStages, wiringWith}
+use Rattle.switches.proofs.StageLaws.{selected}
+use Rattle.plan.specs.Planned.{othersOfP1, portsToZero, keptOfP3, readStages}
+use Rattle.plan.proofs.WithLaws.{wiringWith}
 use Rattle.plan.proofs.ChoiceLaws.{zero-ports, as-many}
 use Rattle.lay.proofs.PairLaws.{pairs-selected}
 

@@ -1,4 +1,6 @@
 -- The sheet with any read stages in range: it is laid out, and it passes for its order if the wiring that is left to the write side sends no two ports to one bank.
+--   wiringWith k ss C p  the port-to-bank part of M: P1, and what the read stages add to it
+--   Wires k ss C         it sends no two ports to one bank
 --   with-read-layable    the read side can be laid out
 --   wires-vanish         a wiring that sends no two ports to one bank sends only port 0 to bank 0
 --   with-read-map        the read side's map N, at tick c and port p: the cell has address c, and the stages change the bank
@@ -29,17 +31,23 @@ use Rattle.order.specs.Parts.{P1, P3}
 use Rattle.order.proofs.PartLaws.{P1-linear, P1-into, P3-linear}
 use Rattle.order.proofs.OrderLaws.{order-bijection}
 use Rattle.sheet.specs.Sheet.{Stage, Side, writeSide, readSide}
-use Rattle.sheet.specs.Layout.{WellFormed, Layable}
-use Rattle.sheet.proofs.LayLaws.{sheet-length, sheet-write, sheet-read, sheet-formed}
+use Rattle.sheet.specs.Layout.{WellFormed}
+use Rattle.sheet.proofs.LayLaws.{sheet-length, sheet-write, sheet-read, sheet-formed, Layable}
 use Rattle.switches.specs.Cells.{bankAt, cellAt, cellOf, M, N}
-use Rattle.switches.specs.Stages.{selected}
-use Rattle.switches.proofs.StageLaws.{selected-linear, stages-sum}
+use Rattle.switches.proofs.StageLaws.{selected-linear, stages-sum, selected}
 use Rattle.switches.proofs.CellLaws.{bank-lt, cell-word, cell-into, cell-linear}
 use Rattle.switches.proofs.WrittenLaws.{side-map, side-few, side-layable}
-use Rattle.promise.specs.Passes.{Invertible, Passes}
-use Rattle.promise.proofs.PassLaws.{shares-invertible}
+use Rattle.promise.specs.Agreement.{Invertible}
+use Rattle.promise.specs.Realises.{Realises}
+use Rattle.promise.proofs.RealiseLaws.{shares-invertible}
 use Rattle.promise.proofs.BoundLaws.{port-part}
-use Rattle.plan.specs.Planned.{StagesInRange, readWith, mWith, writeWith, sheetWith, wiringWith, Wires}
+use Rattle.plan.specs.Planned.{StagesInRange, readWith, mWith, writeWith, sheetWith}
+
+abbrev pub wiringWith : ℕ → List Stage → List ℕ → ℕ → ℕ
+wiringWith k ss C p = bitXor (selected ss (P3 k C p)) (P1 k C p)
+
+abbrev pub Wires : ℕ → List Stage → List ℕ → Type 0
+Wires k ss C = (p q : ℕ) → p < 2 ^ k → q < 2 ^ k → wiringWith k ss C p ≡ wiringWith k ss C q → p ≡ q
 
 pub with-read-layable : (e : Edition) (n k : ℕ) (ss : List Stage) → k ≤ n → StagesInRange n k ss → length ss ≤ e .most-stages → Layable e n k (readWith n k ss)
 with-read-layable e n k ss within range few = record {
@@ -160,7 +168,7 @@ module _ {e : Edition} {n k : ℕ} {C : List ℕ} (sized : Sized e n k) (order :
         ∙ sym (port-part n k (writeWith n k ss C) (readWith n k ss) C within (with-write-layable .used) (read-laid .used) write-map p port)
         ∙ none))
 
-    pub with-passes : Passes e n k C sheet
+    pub with-passes : Realises e n k C sheet
     with-passes =
         let own = bijection-same with-M with-bijection in
         record {

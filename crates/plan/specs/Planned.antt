@@ -4,20 +4,15 @@
 --   mWith n k ss C i         "M = N P"
 --   writeWith n k ss C       the write side, which has M for its map
 --   sheetWith e n k ss C     the sheet
--- When such a sheet passes (a law: no contract asks for it):
---   wiringWith k ss C p      the port-to-bank part of M: P1, and what the read stages add to it
---   Wires k ss C             it sends no two ports to one bank
 -- The planner's choices:
 --   othersOfP1 k C       the numbers of the rows of P1 that are not kept when they are scanned "from 0 up": "the k - r others are i1 < i2 < ..."
 --   portsToZero k C      the "ports that P1 sends to 0"
 --   keptOfP3 n k C       the numbers of the rows of P3 that are kept, "taken only on ports that P1 sends to 0": "the kept are j1 < j2 < ..., k - r of them"
 --   readStages n k C     "stages (2^i1, 2^j1), (2^i2, 2^j2), ...": there are as many directions as controls (laws `other-rows` and `kept-rows`)
 --   plannedRead n k C, plannedM n k C i, plannedWrite n k C, plannedSheet e n k C      the sides, M and the sheet with these read stages
-use Prim.Native.Nat.{ℕ, _^_, _<_}
-use mathlib.Core.Path.{_≡_}
+use Prim.Native.Nat.{ℕ, _^_}
 use mathlib.Core.List.{List}
 use native.Mathlib.Decide.{ℕ-discrete}
-use lib.Bits.{bitXor}
 use lib.ListN.{length}
 use Rattle.kinds.specs.Edition.{Edition}
 use Rattle.kinds.specs.Frame.{tickBits, tickOf}
@@ -26,10 +21,9 @@ use Rattle.bits.specs.Image.{columns}
 use Rattle.span.specs.Scan.{keptAt, others, units}
 use Rattle.span.specs.Rows.{takenOn}
 use Rattle.order.specs.Order.{place}
-use Rattle.order.specs.Parts.{P1, P3, rowsP1, rowsP3}
+use Rattle.order.specs.Parts.{P1, rowsP1, rowsP3}
 use Rattle.sheet.specs.Sheet.{Stage, Side, sheetOf}
 use Rattle.sheet.specs.Layout.{StageInRange, EachStage}
-use Rattle.switches.specs.Stages.{selected}
 use Rattle.switches.specs.Cells.{cellOf}
 use Rattle.switches.specs.Written.{sideFor}
 use Rattle.lay.specs.Staged.{pairs}
@@ -48,12 +42,6 @@ writeWith n k ss C = sideFor n k (mWith n k ss C)
 
 abbrev pub sheetWith : Edition → ℕ → ℕ → List Stage → List ℕ → List ℕ
 sheetWith e n k ss C = sheetOf e (writeWith n k ss C) (readWith n k ss)
-
-abbrev pub wiringWith : ℕ → List Stage → List ℕ → ℕ → ℕ
-wiringWith k ss C p = bitXor (selected ss (P3 k C p)) (P1 k C p)
-
-abbrev pub Wires : ℕ → List Stage → List ℕ → Type 0
-Wires k ss C = (p q : ℕ) → p < 2 ^ k → q < 2 ^ k → wiringWith k ss C p ≡ wiringWith k ss C q → p ≡ q
 
 unfoldable pub othersOfP1 : ℕ → List ℕ → List ℕ
 unfolding others

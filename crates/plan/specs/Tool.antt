@@ -11,7 +11,8 @@ use mathlib.Core.Path.{_≡_}
 use mathlib.Core.List.{List, [], _∷_, _++_}
 use lib.ListN.{length}
 use Rattle.kinds.specs.Answers.{Answers}
-use Rattle.kinds.specs.Edition.{Edition, sheetPlaces, sized?}
+use Rattle.kinds.specs.Edition.{Edition, sheetPlaces}
+use Rattle.kinds.specs.Decisions.{sized?}
 use Rattle.kinds.specs.Frame.{tickBits}
 use Rattle.kinds.specs.First.{Reason, unless}
 use Rattle.kinds.specs.Refusal.{said}
@@ -21,11 +22,12 @@ use Rattle.span.specs.Scan.{rank}
 use Rattle.order.specs.Parts.{rowsP1}
 use Rattle.order.specs.Table.{orderTable}
 use Rattle.sheet.specs.Sheet.{Stage, readSide}
-use Rattle.sheet.specs.Layout.{WellFormed, stageInRange?, eachStage?}
+use Rattle.sheet.specs.Layout.{WellFormed}
+use Rattle.sheet.specs.Decisions.{stageInRange?, eachStage?}
 use Rattle.sheet.specs.Table.{sheetLengths}
 use Rattle.lay.specs.Staged.{ShowsStages}
 use Rattle.lay.specs.declared.Stages.{Stages}
-use Rattle.promise.specs.Series.{Right}
+use Rattle.promise.specs.Right.{Right}
 use Rattle.plan.specs.Planned.{sheetWith, plannedSheet}
 
 abbrev pub planTable : Edition → ℕ → ℕ → List ℕ → List ℕ → List Reason

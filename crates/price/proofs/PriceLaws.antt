@@ -24,7 +24,7 @@ use Rattle.kinds.proofs.FirstLaws.{none-some}
 use Rattle.price.specs.declared.Sums.{Sums}
 use Rattle.price.specs.declared.Priced.{Priced}
 use Rattle.price.specs.declared.Priced.the-variants.{Costs, Refused}
-use Rattle.sheet.proofs.StageLaws.{each-stage, formed-stage}
+use Rattle.sheet.proofs.StageLaws.{stages-none, stages-snoc, each-stage, formed-stage}
 
 pub total-append : (f : Stage → ℕ) (ss ts : List Stage) → total f (ss ++ ts) ≡ total f ss + total f ts
 unfolding total
@@ -33,24 +33,23 @@ total-append f (s ∷ ss) ts = omega (arith, total-append f ss ts)
 
 module _ (f : Stage → ℕ) (l : List ℕ) where
   pub total-none : total f (stagesIn 0 l) ≡ 0
-  unfolding total stagesIn
-  total-none = refl
+  unfolding total
+  total-none = ap (total f) (stages-none l)
 
   pub total-more : (m : ℕ) → total f (stagesIn (m + 1) l) ≡ total f (stagesIn m l) + f (stageAt l m)
-  unfolding total stagesIn
-  total-more m = rw (add-one m) (total-append f (stagesIn m l) (stageAt l m ∷ []) ∙ omega arith)
+  unfolding total
+  total-more m = rw (add-one m) (ap (total f) (stages-snoc m l) ∙ total-append f (stagesIn m l) (stageAt l m ∷ []) ∙ omega arith)
 
 pub total-const : (b : ℕ) (l : List ℕ) (m : ℕ) → total (λ s. b) (stagesIn m l) ≡ m * b
-unfolding total stagesIn
-total-const b l zero = omega arith
-total-const b l (suc m) = omega (arith, total-append (λ s. b) (stagesIn m l) (stageAt l m ∷ []), total-const b l m, suc-mul m b)
+total-const b l zero = total-none (λ s. b) l ∙ omega arith
+total-const b l (suc m) = rw (← add-one m) (total-more (λ s. b) l m ∙ omega (arith, total-const b l m, suc-mul m b))
 
 pub gates-few : (l : List ℕ) (m : ℕ) → ((s : ℕ) → s < m → stageAt l s .control < 2 ^ 16) → total xorGates (stagesIn m l) ≤ 15 * m
-unfolding total stagesIn
-gates-few l zero small = omega arith
+gates-few l zero small = omega (arith, total-none xorGates l)
 gates-few l (suc m) small =
     let rest = gates-few l m (λ s h. small s (omega arith)) in
-    omega (arith, total-append xorGates (stagesIn m l) (stageAt l m ∷ []), rest, ones-le 16 _ (small m (omega arith)))
+    let one-more : total xorGates (stagesIn (suc m) l) ≡ total xorGates (stagesIn m l) + xorGates (stageAt l m) = rw (← add-one m) (total-more xorGates l m) in
+    omega (arith, one-more, rest, ones-le 16 _ (small m (omega arith)))
 
 pub controlled : {n k m : ℕ} {l x : List ℕ} → m ≡ countPlace edition1 l → x ≡ stagePlaces edition1 l → length l ≡ sidePlaces edition1 → FormedSide edition1 n k l
     → Controlled m x

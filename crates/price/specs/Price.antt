@@ -5,7 +5,7 @@
 --   xorGates s           "the ones in its control number, less one"
 --   allStages e n k s    the stages of both sides of the sheet s
 --   priceOf e n k s      its price: "three sums over both sides: switches, multiplexers, xor gates"
---   refusalOf a          the refusal that the price tool's answer a gives; none where it gives a price
+--   refusalOfPrice a     the refusal that the price tool's answer a gives; none where it gives a price
 --   sumsOf a             the numbers that a carries: the three sums, or those of the refusal
 --   Prices e n k s a     the price tool: a is the lowest of 1, 2 and 5 that applies, and carries the price where none does
 use Prim.Native.Nat.{ℕ, _+_, _-_, _*_, _^_}
@@ -43,13 +43,13 @@ priceOf e n k s =
     let both = allStages e n k s in
     total (switches k) both ∷ total (multiplexers k) both ∷ total xorGates both ∷ []
 
-abbrev pub refusalOf : Priced → Option Refusal
-refusalOf (Costs p) = none
-refusalOf (Refused x) = some x
+abbrev pub refusalOfPrice : Priced → Option Refusal
+refusalOfPrice (Costs p) = none
+refusalOfPrice (Refused x) = some x
 
 abbrev pub sumsOf : Priced → List ℕ
 sumsOf (Costs p) = p .switches ∷ p .multiplexers ∷ p .gates ∷ []
 sumsOf (Refused x) = valuesOf x
 
 abbrev pub Prices : Edition → ℕ → ℕ → List ℕ → Priced → Type 0
-Prices e n k s a = Answers (sheetTable e n k s []) (refusalOf a) (sumsOf a ≡ priceOf e n k s) Unit
+Prices e n k s a = Answers (sheetTable e n k s []) (refusalOfPrice a) (sumsOf a ≡ priceOf e n k s) Unit

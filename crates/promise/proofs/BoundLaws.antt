@@ -1,4 +1,4 @@
--- How few read stages a sheet that passes can have (001, Theorem 4.1).
+-- How few read stages a sheet that realises an order can have (001, Theorem 4.1).
 --   port-part       the bank part of M = N P at tick 0
 --   read-stages     with P1 of rank r there are at least k - r
 use Prim.Native.Nat.{ℕ, _+_, _^_, _<_, _≤_}
@@ -21,11 +21,11 @@ use Rattle.order.proofs.PartLaws.{P1-into}
 use Rattle.sheet.specs.Sheet.{Side, writeSide, readSide}
 use Rattle.sheet.specs.Layout.{InRange, WellFormed}
 use Rattle.switches.specs.Cells.{cellOf}
-use Rattle.switches.specs.Stages.{selected}
-use Rattle.switches.proofs.StageLaws.{stages-rank}
+use Rattle.switches.proofs.StageLaws.{stages-rank, selected}
 use Rattle.switches.proofs.CellLaws.{bank-parts, bank-of-cell, wiring-part}
-use Rattle.promise.specs.Passes.{Invertible, Passes}
-use Rattle.promise.proofs.PassLaws.{apart-wired, passes-fits}
+use Rattle.promise.specs.Agreement.{Invertible}
+use Rattle.promise.specs.Realises.{Realises}
+use Rattle.promise.proofs.RealiseLaws.{apart-wired, realises-fits}
 
 module _ (n k : ℕ) (W R : Side) (C : List ℕ) (within : k ≤ n) (write : InRange n k W) (read : InRange n k R)
     (places : (i : ℕ) → i < 2 ^ n → cellOf k W i ≡ cellOf k R (place C i)) where
@@ -54,9 +54,9 @@ module _ (n k : ℕ) (W R : Side) (C : List ℕ) (within : k ≤ n) (write : InR
         rank-rows k (columns k (P1 k C)) (columns-below k (2 ^ k) (P1 k C) (λ j h. P1-into k C (2 ^ k) (2 ^ j) (pow-lt h))),
       )
 
-pub read-stages : {e : Edition} {n k : ℕ} {C s : List ℕ} → k ≤ n → Order n C → WellFormed e n k s → Passes e n k C s
+pub read-stages : {e : Edition} {n k : ℕ} {C s : List ℕ} → k ≤ n → Order n C → WellFormed e n k s → Realises e n k C s
     → k ≤ rank (rowsP1 k C) + length (readSide e n k s .stages)
 read-stages {e} {n} {k} {C} {s} within order formed ok =
-    let fits = passes-fits within order formed ok in
+    let fits = realises-fits within order formed ok in
     side-stages n k (writeSide e n k s) (readSide e n k s) C within (formed .write .used) (formed .read .used) (fits .in-order)
     (apart-wired (formed .write .used) (fits .write-banks))

@@ -13,15 +13,17 @@ use Rattle.kinds.specs.First.{firstOf}
 use Rattle.kinds.specs.Search.{someBelow, eachBelow}
 use Rattle.bits.specs.Image.{image}
 use Rattle.bits.specs.Parity.{parity, dot}
-use Rattle.span.specs.Maps.{bijection?}
+use Rattle.span.specs.Decisions.{bijection?}
 use Rattle.order.specs.Order.{place}
 use Rattle.sheet.specs.Sheet.{stagesIn}
 use Rattle.sheet.proofs.Cases.{reversal}
 use Rattle.switches.specs.Stages.{afterStages}
 use Rattle.switches.specs.Cells.{M, N}
 use Rattle.faults.specs.Marks.{put}
-use Rattle.promise.specs.Series.{wordIn, dueCall, duePort, Stand, standing, outcomeOn}
-use Rattle.promise.specs.Passes.{passTable}
+use Rattle.promise.specs.Series.{wordIn, dueCall, duePort}
+use Rattle.promise.specs.Run.{Stand, standing}
+use Rattle.promise.specs.Answered.{outcomeAt, calledOn}
+use Rattle.promise.specs.Realises.{mapTable}
 
 -- what a sheet's maps and a call compute with
 computed : Unit {0}
@@ -64,7 +66,7 @@ fresh places idle = record { state = record { a = 0; h = 0; r = idle }; memory =
 
 -- the number that each call of a series is answered with, and the words that it hands out
 abbrev told : ℕ → ℕ → List ℕ → Stand → List (List ℕ) → List (ℕ × List ℕ)
-told n k s x S = inOrder (length S) (λ j. let o = outcomeOn edition1 n k s x S j in (given (o .refusal), o .leaving))
+told n k s x S = inOrder (length S) (λ j. let o = outcomeAt (calledOn edition1 n k s S) x j in (given (o .refusal), o .leaving))
 
 -- Gray code: the frame 0 1 2 3 leaves as 0 1 3 2. A frame leaves from the call after the one that completes it, blank or not, while the next comes in.
 leaving : told 2 1 gray (fresh 8 2) ((0 ∷ 1 ∷ []) ∷ [] ∷ (2 ∷ 3 ∷ []) ∷ [] ∷ (4 ∷ 5 ∷ []) ∷ (6 ∷ 7 ∷ []) ∷ (8 ∷ 9 ∷ []) ∷ [] ∷ []) ≡ (
@@ -96,7 +98,7 @@ faults = refl
 
 -- there M = N P for the identity, and still words are lost: 8, and the second call finds its cells filled
 lost : (map (M edition1 2 1 singular) (0 ∷ 1 ∷ 2 ∷ 3 ∷ []) ≡ map (N edition1 2 1 singular) (0 ∷ 1 ∷ 2 ∷ 3 ∷ []))
-    × (given (firstOf (passTable edition1 2 1 (1 ∷ 2 ∷ []) singular)) ≡ 8)
+    × (given (firstOf (mapTable edition1 2 1 (1 ∷ 2 ∷ []) singular)) ≡ 8)
     × (told 2 1 singular (fresh 8 2) ((0 ∷ 1 ∷ []) ∷ (2 ∷ 3 ∷ []) ∷ []) ≡ (0, []) ∷ (12, []) ∷ [])
 unfolding computed
 lost = (refl, refl, refl)
@@ -104,7 +106,7 @@ lost = (refl, refl, refl)
 -- each word of one frame, completed in call 1, and the word that leaves when and where it is due under Gray code
 abbrev judged : List ℕ → List (List ℕ) → List (ℕ × ℕ)
 judged s S =
-    inOrder 4 (λ i. (wordIn 2 S 0 i, getD (outcomeOn edition1 2 1 s (fresh 8 2) S (dueCall 1 (place (1 ∷ 3 ∷ [])) 1 i) .leaving) (duePort 1 (place (1 ∷ 3 ∷ [])) i) 0))
+    inOrder 4 (λ i. (wordIn 2 S 0 i, getD (outcomeAt (calledOn edition1 2 1 s S) (fresh 8 2) (dueCall 0 1 (place (1 ∷ 3 ∷ [])) 1 i) .leaving) (duePort 1 (place (1 ∷ 3 ∷ [])) i) 0))
 
 -- equal words come out well on the identity's sheet too, and different words don't
 content : map (λ (s, S). judged s S) (

@@ -1,10 +1,8 @@
--- How the state follows a series, as long as no call is refused.
---   Completes T st ws  a call that brings ws completes the frame that comes in, which has T ticks
---   fresh-any          whatever words of 32 bits the memory holds, a run with zero marks, nothing coming in, half 0 and an idle reader is fresh
---   fresh-possible     a fresh run's state is possible
---   Counted n k S j st the state st before call j: possible, and a ticks of the incoming frame have come
---   Stays, Turns       a call that completes no frame, and one that does: the frame that comes in, and the reader, after it
---   counted-call       every call is one of them, and the state after it is counted too
+-- How the clock follows a series, as long as no call is refused.
+--   Counted n k S j c    the clock c before call j: possible, and a ticks of the incoming frame have come
+--   clockAfter n k S j c the clock after it
+--   Stays, Turns         a call that completes no frame, and one that does: the frame that comes in, and the reader, after it
+--   counted-call         every call is one of them, and the clock after it is counted too
 use Prim.Native.Nat.{ℕ, suc, _+_, _*_, _/_, _^_, _<_, _≤_}
 use mathlib.Core.Path.{_≡_, refl, sym, ap, ap₂, _∙_}
 use mathlib.Core.List.{List, [], _∷_}
@@ -16,49 +14,35 @@ use lib.ListN.{length}
 use lib.Pow.{pow-pos, high}
 use Rattle.kinds.specs.Frame.{tickBits, ticks}
 use Rattle.kinds.proofs.FrameLaws.{frame-whole}
-use Rattle.sheet.specs.Layout.{AllZero}
-use Rattle.state.specs.States.{Possible, afterRead, next}
-use Rattle.state.specs.declared.State.{State}
-use Rattle.state.proofs.StateLaws.{next-blank, next-part, next-full, next-possible}
-use Rattle.memory.specs.Memory.{Memory}
-use Rattle.call.specs.Tool.{rightTick}
-use Rattle.promise.specs.Series.{Words32, IsCall, callAt, wordsBefore, Stand, Fresh, incoming}
-use Rattle.promise.proofs.SeriesLaws.{call-count, before-more}
-
-pub fresh-any : {n k : ℕ} (m : Memory) → length (m .words) ≡ 2 ^ (n + 1) → Words32 (m .words) → length (m .marks) ≡ 2 ^ (n + 1) → AllZero (m .marks)
-    → Fresh n k (record { state = record { a = 0; h = 0; r = ticks n k }; memory = m })
-fresh-any m lent words marks zeros = record {
-  words-lent = lent;
-  words = words;
-  marks-lent = marks;
-  marks-zero = zeros;
-  nothing-coming = refl;
-  half = refl;
-  idle = refl;
-}
-
-pub fresh-possible : {n k : ℕ} {x : Stand} → Fresh n k x → Possible (ticks n k) (x .state)
-fresh-possible {n} {k} fresh = omega (arith, fresh .nothing-coming, fresh .half, fresh .idle, pow-pos (tickBits n k))
-
-abbrev pub Completes : ℕ → State → List ℕ → Type 0
-Completes T st ws = (0 < length ws) × (st .a + 1 ≡ T)
+use Rattle.kinds.proofs.TruthLaws.{false≢true}
+use Rattle.state.specs.Clocks.{PossibleClock, readOn, nextClock, Completes}
+use Rattle.state.specs.States.{came}
+use Rattle.state.specs.declared.Clock.{Clock}
+use Rattle.state.proofs.ClockLaws.{clock-blank, clock-part, clock-full, clock-possible}
+use Rattle.call.proofs.PlaceLaws.{came-all}
+use Rattle.promise.proofs.SeriesLaws.{WholeTick, before-more}
+use Rattle.promise.specs.Series.{callAt, wordsBefore}
+use Rattle.promise.specs.Run.{incoming}
 
 module _ (n k : ℕ) (S : List (List ℕ)) where
-  pub record Counted (j : ℕ) (st : State) : Type 0 where
-    pub possible : Possible (ticks n k) st
-    pub counted : wordsBefore S j ≡ incoming n S j * 2 ^ n + st .a * 2 ^ k
+  pub record Counted (j : ℕ) (c : Clock) : Type 0 where
+    pub possible : PossibleClock (ticks n k) c
+    pub counted : wordsBefore S j ≡ incoming n S j * 2 ^ n + c .a * 2 ^ k
 
-  pub record Stays (j : ℕ) (st : State) : Type 0 where
+  abbrev pub clockAfter : ℕ → Clock → Clock
+  clockAfter j c = nextClock (ticks n k) c (came (callAt S j))
+
+  pub record Stays (j : ℕ) (c : Clock) : Type 0 where
     pub frame : incoming n S (suc j) ≡ incoming n S j
-    pub reader : next (ticks n k) st (callAt S j) .r ≡ afterRead (ticks n k) st .r
-    pub part : ¬ Completes (ticks n k) st (callAt S j)
+    pub reader : clockAfter j c .r ≡ readOn (ticks n k) c .r
+    pub part : ¬ Completes (ticks n k) c (came (callAt S j))
 
-  pub record Turns (j : ℕ) (st : State) : Type 0 where
+  pub record Turns (j : ℕ) (c : Clock) : Type 0 where
     pub frame : incoming n S (suc j) ≡ incoming n S j + 1
-    pub reader : next (ticks n k) st (callAt S j) .r ≡ 0
-    pub full : Completes (ticks n k) st (callAt S j)
+    pub reader : clockAfter j c .r ≡ 0
+    pub full : Completes (ticks n k) c (came (callAt S j))
 
-module _ {n k : ℕ} (within : k ≤ n) {S : List (List ℕ)} {j : ℕ} {st : State} (now : Counted n k S j st) where
+module _ {n k : ℕ} (within : k ≤ n) {S : List (List ℕ)} {j : ℕ} {c : Clock} (now : Counted n k S j c) where
   abbrev T : ℕ
   T = ticks n k
 
@@ -66,34 +50,34 @@ module _ {n k : ℕ} (within : k ≤ n) {S : List (List ℕ)} {j : ℕ} {st : St
   frame-of : (F a : ℕ) → wordsBefore S (suc j) ≡ F * 2 ^ n + a * 2 ^ k → a < T → incoming n S (suc j) ≡ F
   frame-of F a e l = ap (λ (b : ℕ). b / 2 ^ n) e ∙ high F n (omega (arith, mul-lt-mul-of-pos-right l (pow-pos k), frame-whole within))
 
-  abbrev after : State
-  after = next (ticks n k) st (callAt S j)
+  abbrev after : Clock
+  after = clockAfter n k S j c
 
-  counted-by : (F a h r : ℕ) → after ≡ record { a = a; h = h; r = r } → wordsBefore S (suc j) ≡ F * 2 ^ n + a * 2 ^ k → a < T
+  counted-by : (F a r : ℕ) → after ≡ record { a = a; r = r } → wordsBefore S (suc j) ≡ F * 2 ^ n + a * 2 ^ k → a < T
       → (incoming n S (suc j) ≡ F) × Counted n k S (suc j) after
-  counted-by F a h r is e l =
+  counted-by F a r is e l =
       let frame = frame-of F a e l in
-      (frame, record { possible = next-possible T st (callAt S j) (now .possible); counted = e ∙ ap₂ (λ (b c : ℕ). b * 2 ^ n + c * 2 ^ k) (sym frame) (sym (ap (λ (x : State). x .a) is)) })
+      (frame, record { possible = clock-possible T c (came (callAt S j)) (now .possible); counted = e ∙ ap₂ (λ (b d : ℕ). b * 2 ^ n + d * 2 ^ k) (sym frame) (sym (ap (λ (x : Clock). x .a) is)) })
 
-  pub counted-call : j < length S → IsCall k (callAt S j) → (Stays n k S j st ⊎ Turns n k S j st) × Counted n k S (suc j) after
-  counted-call reach is = go (callAt S j) refl
+  pub counted-call : j < length S → WholeTick k (callAt S j) → (Stays n k S j c ⊎ Turns n k S j c) × Counted n k S (suc j) after
+  counted-call reach whole = go (callAt S j) refl
     where
-      go : (ws : List ℕ) → callAt S j ≡ ws → (Stays n k S j st ⊎ Turns n k S j st) × Counted n k S (suc j) after
+      go : (ws : List ℕ) → callAt S j ≡ ws → (Stays n k S j c ⊎ Turns n k S j c) × Counted n k S (suc j) after
       go [] e =
-          let state = ap (next T st) e ∙ next-blank T st (now .possible .clock .incoming) in
-          let (frame, then) = counted-by (incoming n S j) (st .a) _ _ state (omega (arith, before-more S j reach, ap length e, now .counted)) (now .possible .clock .incoming) in
-          (inl (record { frame = frame; reader = ap (λ (x : State). x .r) state; part = λ (some, _). omega (arith, ap length e) }), then)
+          let clock : after ≡ _ = ap (λ (l : List ℕ). nextClock T c (came l)) e ∙ clock-blank T c (now .possible .incoming) in
+          let (frame, then) = counted-by (incoming n S j) (c .a) _ clock (omega (arith, before-more S j reach, ap length e, now .counted)) (now .possible .incoming) in
+          (inl (record { frame = frame; reader = ap (λ (x : Clock). x .r) clock; part = λ full. false≢true (sym (ap came e) ∙ full .words) }), then)
       go (w ∷ ws) e =
-          let brings : length (callAt S j) ≡ 2 ^ k = call-count (callAt S j) is ∙ ap (λ (l : List ℕ). rightTick k (length l)) e in
-          let more : wordsBefore S (suc j) ≡ incoming n S j * 2 ^ n + (st .a + 1) * 2 ^ k = omega (arith, before-more S j reach, brings, now .counted, add-mul (st .a) 1 (2 ^ k)) in
-          elim (ℕ-discrete (st .a + 1) T) [
+          let brings : length (callAt S j) ≡ 2 ^ k = ap length e ∙ came-all (2 ^ k) w ws (rw e at whole) in
+          let more : wordsBefore S (suc j) ≡ incoming n S j * 2 ^ n + (c .a + 1) * 2 ^ k = omega (arith, before-more S j reach, brings, now .counted, add-mul (c .a) 1 (2 ^ k)) in
+          elim (ℕ-discrete (c .a + 1) T) [
             | yes full ↦
-                let state = ap (next T st) e ∙ next-full T st w ws full in
-                let (frame, then) = counted-by (incoming n S j + 1) 0 _ _ state (omega (arith, more, rw full at more, frame-whole within, add-mul (incoming n S j) 1 (2 ^ n))) (pow-pos (tickBits n k)) in
-                (inr (record { frame = frame; reader = ap (λ (x : State). x .r) state; full = (omega (arith, brings, pow-pos k), full) }), then)
+                let clock : after ≡ _ = ap (λ (l : List ℕ). nextClock T c (came l)) e ∙ clock-full T c full in
+                let (frame, then) = counted-by (incoming n S j + 1) 0 _ clock (omega (arith, more, rw full at more, frame-whole within, add-mul (incoming n S j) 1 (2 ^ n))) (pow-pos (tickBits n k)) in
+                (inr (record { frame = frame; reader = ap (λ (x : Clock). x .r) clock; full = record { possible = now .possible; words = ap came e; last = full } }), then)
             | no part ↦
-                let state = ap (next T st) e ∙ next-part T st w ws part in
-                let l : st .a + 1 < T = omega (arith, part, now .possible .clock .incoming) in
-                let (frame, then) = counted-by (incoming n S j) (st .a + 1) _ _ state more l in
-                (inl (record { frame = frame; reader = ap (λ (x : State). x .r) state; part = λ (_, last). part last }), then)
+                let clock : after ≡ _ = ap (λ (l : List ℕ). nextClock T c (came l)) e ∙ clock-part T c part in
+                let l : c .a + 1 < T = omega (arith, part, now .possible .incoming) in
+                let (frame, then) = counted-by (incoming n S j) (c .a + 1) _ clock more l in
+                (inl (record { frame = frame; reader = ap (λ (x : Clock). x .r) clock; part = λ full. part (full .last) }), then)
           ]

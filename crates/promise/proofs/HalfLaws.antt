@@ -22,25 +22,28 @@ use lib.Pow.{split, high}
 use Rattle.kinds.specs.Frame.{ticks, tickOf, portOf, wordAt}
 use Rattle.kinds.proofs.FrameLaws.{tick-lt, port-lt, word-lt}
 use Rattle.kinds.proofs.FirstLaws.{first-none}
+use Rattle.kinds.proofs.TruthLaws.{false≢true}
 use Rattle.span.specs.Maps.{Injective, Bijection}
 use Rattle.span.proofs.Counting.{injective-onto}
-use Rattle.state.specs.States.{Possible, afterRead, afterWrite, turned, next}
+use Rattle.state.specs.Clocks.{Completes}
+use Rattle.state.specs.States.{clockOf, Possible, came, next}
 use Rattle.state.specs.declared.State.{State}
-use Rattle.state.proofs.StateLaws.{next-possible}
-use Rattle.faults.specs.Marks.{Filled, put, marked}
-use Rattle.faults.specs.Faults.{Clash, SomeFilled, SomeEmpty, faults}
+use Rattle.state.proofs.StateLaws.{afterRead, afterWrite, turned, next-possible}
+use Rattle.faults.specs.Marks.{Filled, put, withMarks}
+use Rattle.faults.specs.Faults.{Clash, SomeFilled, SomeEmpty}
+use Rattle.faults.specs.Table.{faults}
 use Rattle.faults.proofs.MarkLaws.{put-nil, put-length, put-other}
 use Rattle.faults.proofs.FaultLaws.{Different}
 use Rattle.memory.specs.Memory.{Memory, stored, emptied, wordsAt, served}
 use Rattle.memory.proofs.MemoryLaws.{words-at}
 use Rattle.memory.proofs.CountLaws.{put-in}
 use Rattle.call.specs.Call.{placeIn, placesOf, readsOf, writesOf, accessOf, call}
-use Rattle.call.specs.Tool.{rightTick}
-use Rattle.call.proofs.PlaceLaws.{places-clash, halves-apart, places-at, places-length, places-below}
+use Rattle.call.proofs.PlaceLaws.{came-all, places-clash, halves-apart, places-at, places-length, places-below}
 use Rattle.call.proofs.CallLaws.{call-given}
-use Rattle.promise.specs.Passes.{BanksApart, Fits}
-use Rattle.promise.specs.Series.{Stand, Fresh}
-use Rattle.promise.proofs.CountedLaws.{fresh-possible, Completes}
+use Rattle.promise.proofs.SeriesLaws.{WholeTick}
+use Rattle.promise.specs.Run.{Stand, Fresh}
+use Rattle.promise.proofs.Fits.{BanksApart, FitsOrder}
+use Rattle.promise.proofs.FreshLaws.{fresh-possible}
 
 pub record Cell (m : Memory) (x : ℕ) (Here : Type 0) (w : ℕ) : Type 0 where
   pub filled : Here → Filled (m .marks) x
@@ -61,7 +64,7 @@ pub record Held (n k : ℕ) (st : State) (m : Memory) (f w Q d v : ℕ → ℕ) 
   pub halves : Halves n k st m f w Q d v
 
 pub record Brings (k c : ℕ) (w : ℕ → ℕ) (ws : List ℕ) : Type 0 where
-  pub count : length ws ≡ rightTick k (length ws)
+  pub count : WholeTick k ws
   pub words : (p : ℕ) → p < length ws → getD ws p 0 ≡ w (wordAt k c p)
 
 module _ {x w : ℕ} {A : Type 0} where
@@ -84,7 +87,7 @@ record Own (n : ℕ) (f : ℕ → ℕ) : Type 0 where
   into : (i : ℕ) → f i < 2 ^ n
   apart : Injective f (2 ^ n)
 
-module _ {n k : ℕ} {P f g : ℕ → ℕ} (fits : Fits n k P f g) where
+module _ {n k : ℕ} {P f g : ℕ → ℕ} (fits : FitsOrder n k P f g) where
   own-writes : Own n f
   own-writes = record { into = fits .write-cells; apart = fits .own-cells }
 
@@ -108,14 +111,14 @@ module _ {T : ℕ} {st : State} (ok : Possible T st) where
     | no idle ↦ rw (le-ltb (st .r) T (omega arith)) (omega arith)
   ]
 
-  part : (ws : List ℕ) → ¬ Completes T st ws → afterWrite (afterRead T st) ws .a ≢ T
+  part : (ws : List ℕ) → ¬ Completes T (clockOf st) (came ws) → afterWrite (afterRead T st) ws .a ≢ T
   part [] not full = omega (arith, read-state)
-  part (x ∷ ws) not full = not (omega arith, omega (arith, read-state))
+  part (x ∷ ws) not full = not (record { possible = ok .clock; words = refl; last = omega (arith, read-state) })
 
-  whole : (ws : List ℕ) → Completes T st ws
+  whole : (ws : List ℕ) → Completes T (clockOf st) (came ws)
       → (afterWrite (afterRead T st) ws .a ≡ T) × (afterWrite (afterRead T st) ws .r ≡ T) × (afterWrite (afterRead T st) ws .h < 2)
-  whole [] full = absurd (omega arith)
-  whole (x ∷ ws) full = omega (arith, read-state)
+  whole [] full = absurd (false≢true (full .words))
+  whole (x ∷ ws) full = omega (arith, read-state, full .last)
 
 module _ {n k : ℕ} (within : k ≤ n) where
   no-clash : (f : ℕ → ℕ) → BanksApart n k f → (h : ℕ) {c : ℕ} → c < ticks n k → ¬ Clash k (placesOf n k f h c)
@@ -146,12 +149,12 @@ module _ {n k : ℕ} (within : k ≤ n) where
         (put-in (placesOf n k f h c) vs l differ (λ p b. rw lent (places-below n k f (own .into) h c half p b)) (each ∙ sym all) (portOf k j)
         (omega (arith, port-lt k j)))
 
-    mark-here : (b : ℕ) (l : List ℕ) → length l ≡ 2 ^ (n + 1) → (j : ℕ) → tickOf k j ≡ c → getD (marked b (placesOf n k f h c) l) (placeIn n h (f j)) 0 ≡ b
+    mark-here : (b : ℕ) (l : List ℕ) → length l ≡ 2 ^ (n + 1) → (j : ℕ) → tickOf k j ≡ c → getD (withMarks b (placesOf n k f h c) l) (placeIn n h (f j)) 0 ≡ b
     mark-here b l lent j now =
         rw (places-length n k f h c)
         (put-here (replicate (2 ^ k) b) l (length-replicate (2 ^ k) b) lent j now ∙ getD-replicate (2 ^ k) (portOf k j) b 0 (port-lt k j))
 
-  half-emptied : {Q d e v : ℕ → ℕ} → Fits n k Q d e → {h r : ℕ} → h < 2 → r < ticks n k → {m : Memory} → length (m .marks) ≡ 2 ^ (n + 1)
+  half-emptied : {Q d e v : ℕ → ℕ} → FitsOrder n k Q d e → {h r : ℕ} → h < 2 → r < ticks n k → {m : Memory} → length (m .marks) ≡ 2 ^ (n + 1)
       → Half n m h d (λ i. r ≤ tickOf k (Q i)) v → Half n (emptied (placesOf n k e h r) m) h d (λ i. r + 1 ≤ tickOf k (Q i)) v
   half-emptied {Q} fits {r = r} half tick {m} lent held i l = rw (fits .in-order i l) (elim (ℕ-discrete (tickOf k (Q i)) r) [
     | yes now ↦ cell-empty (mark-here (own-reads fits) half tick 0 (m .marks) lent (Q i) now) (omega arith)
@@ -164,8 +167,8 @@ module _ {n k : ℕ} (within : k ≤ n) where
       → Half n m h f (λ i. tickOf k i < a) w → Half n (stored (placesOf n k f h a) (x ∷ ws) m) h f (λ i. tickOf k i < a + 1) w
   half-stored {w = w} own {a = a} half tick {m} words marks x ws brings held i l = elim (ℕ-discrete (tickOf k i) a) [
     | yes now ↦ cell-filled (mark-here own half tick 1 (m .marks) marks i now)
-        (put-here own half tick (x ∷ ws) (m .words) (brings .count) words i now
-        ∙ brings .words (portOf k i) (omega (arith, brings .count, port-lt k i)) ∙ ap w (rw (← now) (split i k))) (omega arith)
+        (put-here own half tick (x ∷ ws) (m .words) (came-all (2 ^ k) x ws (brings .count)) words i now
+        ∙ brings .words (portOf k i) (omega (arith, came-all (2 ^ k) x ws (brings .count), port-lt k i)) ∙ ap w (rw (← now) (split i k))) (omega arith)
     | no other ↦ cell-same (put-elsewhere own half tick _ (m .marks) l other) (put-elsewhere own half tick (x ∷ ws) (m .words) l other) (λ here. omega arith, λ here. omega arith)
         (held i l)
   ]
@@ -195,7 +198,7 @@ module _ {n k : ℕ} (within : k ≤ n) where
         | no beyond ↦ List·getD-eq-default (x .memory .marks) 0 (omega arith)
       ]
 
-  module _ {P f g Q d e w v : ℕ → ℕ} (new : Fits n k P f g) (old : Fits n k Q d e) where
+  module _ {P f g Q d e w v : ℕ → ℕ} (new : FitsOrder n k P f g) (old : FitsOrder n k Q d e) where
     after-read : {st : State} {m : Memory} → st .r < ticks n k → st .h < 2 → Halves n k st m f w Q d v
         → Halves n k (record { a = st .a; h = st .h; r = st .r + 1 }) (emptied (placesOf n k e (1 - st .h) (st .r)) m) f w Q d v
     after-read {st} {m} tick half halves = record {
@@ -284,13 +287,13 @@ module _ {n k : ℕ} (within : k ≤ n) where
           )
 
       module _ {ws : List ℕ} (brings : Brings k (st .a) w ws) where
-        pub held-stays : ¬ Completes (ticks n k) st ws → Held n k (next (ticks n k) st ws) (served (accessOf n k f e st ws) m) f w Q d v
+        pub held-stays : ¬ Completes (ticks n k) (clockOf st) (came ws) → Held n k (next (ticks n k) st ws) (served (accessOf n k f e st ws) m) f w Q d v
         held-stays not = record {
           possible = next-possible (ticks n k) st ws (held .possible);
           halves = rw (ne-eqb _ (ticks n k) (part (held .possible) ws not)) (after-both (held .possible) brings (held .halves));
         }
 
-        pub held-turns : Completes (ticks n k) st ws → {f' w' : ℕ → ℕ} → ((i : ℕ) → f' i < 2 ^ n)
+        pub held-turns : Completes (ticks n k) (clockOf st) (came ws) → {f' w' : ℕ → ℕ} → ((i : ℕ) → f' i < 2 ^ n)
             → Held n k (next (ticks n k) st ws) (served (accessOf n k f e st ws) m) f' w' P f w
         held-turns full into = record {
           possible = next-possible (ticks n k) st ws (held .possible);

@@ -1,16 +1,20 @@
 -- Laws over every series.
+pub mod Fits
 pub mod SeriesLaws
+pub mod FreshLaws
 pub mod CountedLaws
 pub mod TurnLaws
-pub mod RefusalLaws
+pub mod AnsweredLaws
 pub mod HalfLaws
 pub mod FamilyLaws
+pub mod CalledLaws
 pub mod OneFrame
 pub mod OneRun
-pub mod PassLaws
+pub mod RealiseLaws
 pub mod RightLaws
 pub mod BoundLaws
 pub mod ExactLaws
+pub mod SheetLaws
 pub mod ToolLaws
 pub mod CallerLaws
 pub mod Cases

@@ -1,25 +1,31 @@
 -- The run as a tool over a series of calls.
+--   over-same, taken-same, handed-same      what is seen alike is right alike, and takes in and hands out as many words
 --   tool-conserved      "words taken in, less words handed out, over the successful calls, equal the filled marks" (01, 'One tick of the run'), whatever the sheet, the series and the buffers
 --   tool-possible       from fresh every state met is possible
 --   tool-runs           with a sheet that keeps the layout and a series of calls, the tool's run from fresh is the sheet's: 1, 2, 5 and 10 are never given
 --   tool-outcome        and so is what comes of each call
+--   tool-seen           and what is seen of it
 --   tool-call           a call that is made where the sheet's run stands comes out as its own
 --   tool-right          so where the sheet is right for an order, what the tool answers is
+--   tool-tick           the ticks of the moved frame leave, one by one
+--   tool-hands          a tick is handed out exactly in the calls in which one is due
+--   tool-alone          and what leaves for a frame depends on its own words and the pattern of calls alone: frames do not leak
 --   tool-exact          and only there: the sheet is right exactly when the run as a tool is
 use Prim.Native.Nat.{ℕ, zero, suc, _+_, _^_, _<_, _≤_}
-use mathlib.Core.Path.{_≡_, refl, sym, ap, _∙_}
+use mathlib.Core.Path.{_≡_, refl, sym, ap, ap₂, subst, _∙_}
 use mathlib.Core.Bool.{cond}
 use mathlib.Core.List.{List}
 use mathlib.Core.Logic.{_↔_}
 use mathlib.Core.Option.{Option, none, some}
 use native.Mathlib.Omega.{arith}
 use lib.ListN.{length, replicate, length-replicate}
+use Rattle.kinds.specs.Answers.{Says}
 use Rattle.kinds.specs.Edition.{Edition, Sized, sheetPlaces}
 use Rattle.kinds.specs.Frame.{ticks}
 use Rattle.kinds.specs.First.{Reason, firstOf}
 use Rattle.kinds.specs.declared.Refusal.{Refusal}
 use Rattle.kinds.proofs.FirstLaws.{first-none}
-use Rattle.order.specs.Order.{place}
+use Rattle.order.specs.Order.{place, Order, Moved}
 use Rattle.sheet.specs.Layout.{AllZero, WellFormed}
 use Rattle.switches.specs.Cells.{M, N}
 use Rattle.state.specs.States.{Possible}
@@ -28,12 +34,18 @@ use Rattle.faults.proofs.MarkLaws.{put-length}
 use Rattle.memory.specs.Memory.{Memory, filledMarks}
 use Rattle.memory.proofs.CountLaws.{zero-marks}
 use Rattle.call.specs.Call.{Outcome, call}
+use Rattle.call.specs.Tool.{Lent}
 use Rattle.call.proofs.CallLaws.{call-refused, call-done, call-past, call-leaving}
 use Rattle.run.specs.Tool.{beforeFaults}
 use Rattle.run.proofs.ToolLaws.{sheet-call-possible, sheet-call-filled}
-use Rattle.promise.specs.Series.{callAt, Series, Stand, Fresh, ifSuccessful, standing, outcomeOf, wordsTaken, wordsHanded, called, ticked, standingOn, outcomeOn, RightOver, Right, RightAsTool}
+use Rattle.promise.specs.Series.{callAt, Series, frame, wordsOfTick, CompletedIn, TickDue, SamePattern}
+use Rattle.promise.specs.Seen.{Seen, ifSuccessful, wordsTaken, wordsHanded, RightOver}
+use Rattle.promise.specs.Run.{Stand, Fresh, standing}
+use Rattle.promise.specs.Right.{Right}
+use Rattle.promise.specs.Answered.{stands, outcomeAt, seenOf, seenAt, standAfter, toolCall, calledOn, RightAsTool}
 use Rattle.promise.proofs.SeriesLaws.{call-count}
-use Rattle.promise.proofs.CountedLaws.{fresh-possible}
+use Rattle.promise.proofs.FreshLaws.{fresh-possible}
+use Rattle.promise.proofs.SheetLaws.{answered, right-tick, right-alone, right-hands}
 
 -- What came of a call that brought ws to the memory m: the memory has its places, and the filled marks grew by the words taken in, and shrank by those handed out.
 record Fair (o : Outcome) (m : Memory) (ws : List ℕ) : Type 0 where
@@ -58,89 +70,118 @@ module _ (t : List Reason) (n k : ℕ) (f g : ℕ → ℕ) (st : State) (ws : Li
           }
       go (some x) given = rw (call-refused t n k f g st ws m given) (record { words = refl; marks = refl; filled = refl })
 
-module _ (made : ℕ → Stand → Outcome) (x : Stand) (S : List (List ℕ)) (fair : (j : ℕ) → Fair (outcomeOf made x j) (standing made x j .memory) (callAt S j)) where
-  conserved-by : AllZero (x .memory .marks) → (j : ℕ) → wordsTaken made x S j ≡ filledMarks (standing made x j .memory .marks) + wordsHanded made x j
+module _ (made : ℕ → Stand → Outcome) (x : Stand) (S : List (List ℕ)) (fair : (j : ℕ) → Fair (outcomeAt made x j) (stands made x j .memory) (callAt S j)) where
+  conserved-by : AllZero (x .memory .marks) → (j : ℕ) → wordsTaken (seenAt made x) S j ≡ filledMarks (stands made x j .memory .marks) + wordsHanded (seenAt made x) j
   unfolding standing wordsTaken wordsHanded
   conserved-by zeros zero = omega (arith, zero-marks (x .memory .marks) zeros)
   conserved-by zeros (suc j) = omega (arith, conserved-by zeros j, fair j .filled)
 
   -- the memory keeps its places
-  lent-by : (j : ℕ) → (length (standing made x j .memory .words) ≡ length (x .memory .words)) × (length (standing made x j .memory .marks) ≡ length (x .memory .marks))
+  lent-by : (j : ℕ) → (length (stands made x j .memory .words) ≡ length (x .memory .words)) × (length (stands made x j .memory .marks) ≡ length (x .memory .marks))
   unfolding standing
   lent-by zero = (refl, refl)
   lent-by (suc j) = (fair j .words ∙ lent-by j .0, fair j .marks ∙ lent-by j .1)
 
-over-same : {n k : ℕ} {P : ℕ → ℕ → ℕ} {o u : ℕ → Outcome} {S : List (List ℕ)} → ((j : ℕ) → j < length S → o j ≡ u j) → RightOver n k P u S → RightOver n k P o S
+pub over-same : {d n k : ℕ} {P : ℕ → ℕ → ℕ} {o u : ℕ → Seen} {S : List (List ℕ)} → ((j : ℕ) → j < length S → o j ≡ u j) → RightOver d n k P u S → RightOver d n k P o S
 over-same same right = record {
   no-fault = λ j reach. rw (same j reach) (right .no-fault j reach);
-  leaves = λ F T i completed l reach. rw (same _ reach) (right .leaves F T i completed l reach);
+  leaves = λ F T i j completed l is reach. rw (same j reach) (right .leaves F T i j completed l is reach);
 }
+
+pub taken-same : {o u : ℕ → Seen} (S : List (List ℕ)) (j : ℕ) → ((i : ℕ) → i < j → o i ≡ u i) → wordsTaken o S j ≡ wordsTaken u S j
+unfolding wordsTaken
+taken-same S zero same = refl
+taken-same S (suc j) same =
+    ap₂ (λ (a : ℕ) (c : Seen). a + ifSuccessful (c .refusal) (length (callAt S j))) (taken-same S j (λ i h. same i (omega arith))) (same j (omega arith))
+
+pub handed-same : {o u : ℕ → Seen} (j : ℕ) → ((i : ℕ) → i < j → o i ≡ u i) → wordsHanded o j ≡ wordsHanded u j
+unfolding wordsHanded
+handed-same zero same = refl
+handed-same (suc j) same =
+    ap₂ (λ (a : ℕ) (c : Seen). a + ifSuccessful (c .refusal) (length (c .leaving))) (handed-same j (λ i h. same i (omega arith))) (same j (omega arith))
 
 module _ (e : Edition) (n k : ℕ) (s : List ℕ) (S : List (List ℕ)) (out : ℕ → List ℕ) (x : Stand) where
   abbrev tool : ℕ → Stand → Outcome
-  tool = ticked e n k s S out
+  tool = toolCall e n k s S out
+
+  abbrev lent : ℕ → Stand → Lent
+  lent j y = record { state = y .state; came = callAt S j; memory = y .memory; out = out j }
 
   abbrev before : ℕ → Stand → List Reason
-  before j y = beforeFaults e n k s (y .state) (callAt S j) (y .memory) (out j)
+  before j y = beforeFaults e n k s (lent j y)
 
   tool-fair : (j : ℕ) (y : Stand) → Fair (tool j y) (y .memory) (callAt S j)
   tool-fair j y =
       call-fair (before j y) n k (M e n k s) (N e n k s) (y .state) (callAt S j) (y .memory)
-      (λ ok. sheet-call-filled e n k s (y .state) (callAt S j) (y .memory) (out j) ok .0)
+      (λ ok. sheet-call-filled e n k s (lent j y) ok .0)
 
-  fair-at : (j : ℕ) → Fair (outcomeOf tool x j) (standing tool x j .memory) (callAt S j)
-  fair-at j = tool-fair j (standing tool x j)
+  fair-at : (j : ℕ) → Fair (outcomeAt tool x j) (stands tool x j .memory) (callAt S j)
+  fair-at j = tool-fair j (stands tool x j)
 
-  pub tool-conserved : AllZero (x .memory .marks) → (j : ℕ) → wordsTaken tool x S j ≡ filledMarks (standing tool x j .memory .marks) + wordsHanded tool x j
+  pub tool-conserved : AllZero (x .memory .marks) → (j : ℕ) → wordsTaken (seenAt tool x) S j ≡ filledMarks (stands tool x j .memory .marks) + wordsHanded (seenAt tool x) j
   tool-conserved = conserved-by tool x S fair-at
 
   stays-possible : (j : ℕ) (y : Stand) → Possible (ticks n k) (y .state) → (o : Option Refusal) → tool j y .refusal ≡ o → Possible (ticks n k) (tool j y .state)
-  stays-possible j y possible none ok = sheet-call-possible e n k s (y .state) (callAt S j) (y .memory) (out j) ok
+  stays-possible j y possible none ok = sheet-call-possible e n k s (lent j y) ok
   stays-possible j y possible (some r) given =
       rw (ap (λ (o : Outcome). o .state) (call-refused (before j y) n k (M e n k s) (N e n k s) (y .state) (callAt S j) (y .memory) given)) possible
 
-  possible-at : Possible (ticks n k) (x .state) → (j : ℕ) → Possible (ticks n k) (standing tool x j .state)
+  possible-at : Possible (ticks n k) (x .state) → (j : ℕ) → Possible (ticks n k) (stands tool x j .state)
   unfolding standing
   possible-at possible zero = possible
-  possible-at possible (suc j) = let y = standing tool x j in stays-possible j y (possible-at possible j) (tool j y .refusal) refl
+  possible-at possible (suc j) = let y = stands tool x j in stays-possible j y (possible-at possible j) (tool j y .refusal) refl
 
-  pub tool-possible : Fresh n k x → (j : ℕ) → Possible (ticks n k) (standing tool x j .state)
+  pub tool-possible : Fresh n k x → (j : ℕ) → Possible (ticks n k) (stands tool x j .state)
   tool-possible fresh = possible-at (fresh-possible fresh)
 
   module _ (sized : Sized e n k) (whole : length s ≡ sheetPlaces e) (formed : WellFormed e n k s) (room : (j : ℕ) → j < length S → length (out j) ≡ 2 ^ k)
       (fresh : Fresh n k x) (series : Series k S) where
-    nothing-wrong : (j : ℕ) → j < length S → firstOf (before j (standing tool x j)) ≡ none
+    nothing-wrong : (j : ℕ) → j < length S → firstOf (before j (stands tool x j)) ≡ none
     nothing-wrong j h =
-        let y = standing tool x j in
+        let y = stands tool x j in
         let (words, marks) = lent-by tool x S fair-at j in
         let possible = tool-possible fresh j in
         first-none (before j y) .1 (
           λ outside. outside sized,
           (
-            λ wrong. wrong (whole, (call-count (callAt S j) (series j h), (room j h, (words ∙ fresh .words-lent, (marks ∙ fresh .marks-lent, tt))))),
+            λ wrong. wrong (whole, (call-count k (callAt S j) (series j h .count), (room j h, (words ∙ fresh .words-lent, (marks ∙ fresh .marks-lent, tt))))),
             (λ broken. broken formed, (λ not. not possible, tt)),
           ),
         )
 
-    outcome-by : (j : ℕ) → j < length S → standing tool x j ≡ standingOn e n k s x S j → outcomeOf tool x j ≡ outcomeOn e n k s x S j
+    outcome-by : (j : ℕ) → j < length S → stands tool x j ≡ stands (calledOn e n k s S) x j → outcomeAt tool x j ≡ outcomeAt (calledOn e n k s S) x j
     outcome-by j h same =
-        let y = standing tool x j in
+        let y = stands tool x j in
         call-past (before j y) n k (M e n k s) (N e n k s) (y .state) (callAt S j) (y .memory) (nothing-wrong j h)
-        ∙ ap (called n k (λ F. M e n k s) (λ F. N e n k s) S j) same
+        ∙ ap (calledOn e n k s S j) same
 
-    pub tool-runs : (j : ℕ) → j ≤ length S → standing tool x j ≡ standingOn e n k s x S j
+    pub tool-runs : (j : ℕ) → j ≤ length S → stands tool x j ≡ stands (calledOn e n k s S) x j
     unfolding standing
     tool-runs zero h = refl
-    tool-runs (suc j) h = ap (λ (o : Outcome). record { state = o .state; memory = o .memory }) (outcome-by j h (tool-runs j (omega arith)))
+    tool-runs (suc j) h = ap standAfter (outcome-by j h (tool-runs j (omega arith)))
 
-    pub tool-outcome : (j : ℕ) → j < length S → outcomeOf tool x j ≡ outcomeOn e n k s x S j
+    pub tool-outcome : (j : ℕ) → j < length S → outcomeAt tool x j ≡ outcomeAt (calledOn e n k s S) x j
     tool-outcome j h = outcome-by j h (tool-runs j (omega arith))
 
-    pub tool-call : (j : ℕ) → j < length S → tool j (standingOn e n k s x S j) ≡ outcomeOn e n k s x S j
+    pub tool-call : (j : ℕ) → j < length S → tool j (stands (calledOn e n k s S) x j) ≡ outcomeAt (calledOn e n k s S) x j
     tool-call j h = ap (tool j) (sym (tool-runs j (omega arith))) ∙ tool-outcome j h
 
-    pub tool-right : {C : List ℕ} → Right e n k C s → RightOver n k (λ F. place C) (outcomeOf tool x) S
-    tool-right right = over-same tool-outcome (right .over x S fresh series)
+    pub tool-seen : (j : ℕ) → j < length S → seenAt tool x j ≡ seenOf (outcomeAt (calledOn e n k s S) x j)
+    tool-seen j h = ap seenOf (tool-outcome j h)
+
+    pub tool-right : {C : List ℕ} → Right e n k C s → RightOver 0 n k (λ F. place C) (seenAt tool x) S
+    tool-right right = over-same tool-seen (answered .0 right .over x S fresh series)
+
+    module _ {C : List ℕ} (order : Order n C) (right : Right e n k C s) where
+      within : k ≤ n
+      within = omega (arith, sized .most)
+
+      pub tool-hands : (j : ℕ) → j < length S → Says (seenAt tool x j .handed) (TickDue 0 n k S j)
+      tool-hands j h = subst (λ (o : Seen). Says (o .handed) (TickDue 0 n k S j)) (sym (tool-seen j h)) (right-hands within order right x S fresh series formed j h)
+
+      pub tool-tick : {F T c : ℕ} → CompletedIn n S F T → c < ticks n k → T + 1 + c < length S → (l : List ℕ) → Moved n C (frame n S F) l
+          → seenAt tool x (T + 1 + c) .leaving ≡ wordsOfTick k l c
+      tool-tick completed early reach l moved = ap (λ (o : Seen). o .leaving) (tool-seen _ reach) ∙ right-tick within order right x S fresh series completed early reach l moved
 
 abbrev buffers : ℕ → ℕ → List ℕ
 buffers k j = replicate (2 ^ k) 0
@@ -149,9 +190,18 @@ module _ {e : Edition} {n k : ℕ} {C s : List ℕ} (sized : Sized e n k) (whole
   pub tool-exact : Right e n k C s ↔ RightAsTool e n k C s
   tool-exact = (
     λ right. record { over = λ x S out fresh series room. tool-right e n k s S out x sized whole formed room fresh series right },
-    λ right. record {
+    λ right. answered .1 (record {
       over = λ x S fresh series.
-          over-same (λ j h. sym (tool-outcome e n k s S (buffers k) x sized whole formed (λ i l. length-replicate (2 ^ k) 0) fresh series j h))
+          over-same (λ j h. sym (tool-seen e n k s S (buffers k) x sized whole formed (λ i l. length-replicate (2 ^ k) 0) fresh series j h))
           (right .over x S (buffers k) fresh series (λ i l. length-replicate (2 ^ k) 0));
-    },
+    }),
   )
+
+module _ {e : Edition} {n k : ℕ} {C s : List ℕ} (sized : Sized e n k) (whole : length s ≡ sheetPlaces e) (formed : WellFormed e n k s) (order : Order n C) (right : Right e n k C s) where
+  pub tool-alone : (x y : Stand) (S R : List (List ℕ)) (out buffers : ℕ → List ℕ) → ((j : ℕ) → j < length S → length (out j) ≡ 2 ^ k) → ((j : ℕ) → j < length R → length (buffers j) ≡ 2 ^ k)
+      → Fresh n k x → Fresh n k y → Series k S → Series k R → SamePattern S R → {F T c : ℕ} → frame n S F ≡ frame n R F → CompletedIn n S F T → c < ticks n k → T + 1 + c < length S
+      → seenAt (toolCall e n k s S out) x (T + 1 + c) .leaving ≡ seenAt (toolCall e n k s R buffers) y (T + 1 + c) .leaving
+  tool-alone x y S R out buffers room space fresh also series others same words completed early reach =
+      ap (λ (o : Seen). o .leaving) (tool-seen e n k s S out x sized whole formed room fresh series _ reach)
+      ∙ right-alone (omega (arith, sized .most)) order right x S fresh series y R also others same words completed early reach
+      ∙ sym (ap (λ (o : Seen). o .leaving) (tool-seen e n k s R buffers y sized whole formed space also others _ (rw (← same .calls) reach)))

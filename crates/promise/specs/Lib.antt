@@ -1,3 +1,10 @@
--- What the run promises over time, and when a sheet passes.
+-- Series of calls and frames, the run over them, when it is right, and when a sheet realises an order.
 pub mod Series
-pub mod Passes
+pub mod Seen
+pub mod Run
+pub mod Right
+pub mod Answered
+pub mod Caller
+pub mod Agreement
+pub mod Decisions
+pub mod Realises

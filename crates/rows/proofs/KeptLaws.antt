@@ -6,7 +6,8 @@ use mathlib.Core.List.{List}
 use borrow.Author.Tests.{leb-true, le-leb}
 use lib.ListN.{getD}
 use Rattle.kinds.specs.Answers.{Says}
-use Rattle.span.specs.Scan.{IsKept, mask}
+use Rattle.span.specs.Scan.{mask}
+use Rattle.span.proofs.ScanLaws.{IsKept}
 use Rattle.span.proofs.MaskLaws.{mask-says}
 use Rattle.rows.specs.Listed.{keptIn}
 

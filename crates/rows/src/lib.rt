@@ -6,7 +6,7 @@ ghost use Rattle.bits.specs.Image.{columns as columnsOf};
 ghost use Rattle.bits.specs.Padded.{arrayWidth, padded};
 ghost use Rattle.span.specs.Scan.{masks as masksOf};
 ghost use Rattle.span.specs.Rows.{row as rowIn, rows as rowsIn};
-ghost use Rattle.rows.specs.Listed.{keptIn, listed, unitsOf};
+ghost use Rattle.rows.specs.Listed.{keptIn, keptNumbers, unitsOf};
 
 // Places of an array of columns, rows or masks.
 const WIDTH: usize = 16;
@@ -70,7 +70,7 @@ pub struct Listed {
 
 // Of the rows from a to b - 1, of the first 16, those that were kept, or those that were not; 2^0 stands for row a.
 pub fn list_rows(masks: &[u16], a: usize, b: usize, kept: bool) -> Listed
-    ensures { λ r. ⌜ r ≡ unitsOf (listed (now (masks .entry)) a (min b arrayWidth) kept) ⌝ }
+    ensures { λ r. ⌜ r ≡ unitsOf (keptNumbers (now (masks .entry)) a (min b arrayWidth) kept) ⌝ }
 {
     let mut units = [0; WIDTH];
     let mut count = 0;

@@ -7,21 +7,21 @@ use mathlib.Core.Option.{none, some}
 use native.Mathlib.Decide.{ℕ-discrete, decLe, decLt}
 use lib.Count.{ones}
 use lib.ListN.{set, replicate}
-use Rattle.kinds.specs.Edition.{edition1, sized?}
+use Rattle.kinds.specs.Edition.{edition1}
+use Rattle.kinds.specs.Decisions.{sized?, rightLengths?}
 use Rattle.kinds.specs.Frame.{inOrder}
 use Rattle.kinds.specs.Refusal.{given}
 use Rattle.kinds.specs.First.{firstOf}
-use Rattle.kinds.specs.Reasons.{rightLengths?}
 use Rattle.kinds.specs.Search.{someBelow, eachBelow}
 use Rattle.kinds.specs.declared.Refusal.the-variants.{WriteClash, ReadClash}
-use Rattle.bits.specs.Image.{image, allBelow?}
+use Rattle.bits.specs.Image.{image}
+use Rattle.bits.specs.Decisions.{allBelow?}
 use Rattle.bits.specs.Parity.{parity, dot}
 use Rattle.sheet.specs.Sheet.{stagesIn}
-use Rattle.sheet.specs.Layout.{fromTo?, stageInRange?, eachStage?, inRange?, allZero?, formedSide?, wellFormed?}
+use Rattle.sheet.specs.Decisions.{fromTo?, stageInRange?, eachStage?, inRange?, allZero?, formedSide?, wellFormed?}
 use Rattle.sheet.proofs.Cases.{reversal}
 use Rattle.switches.specs.Stages.{afterStages}
-use Rattle.state.specs.Clocks.{possibleClock?}
-use Rattle.state.specs.States.{possible?}
+use Rattle.state.specs.Decisions.{possibleClock?, possible?}
 use Rattle.state.specs.declared.State.{State}
 use Rattle.faults.specs.Marks.{put}
 use Rattle.memory.specs.Memory.{Memory}
@@ -45,7 +45,7 @@ zeroed n = record { words = zeros n; marks = zeros n }
 
 -- a call at bit reversal
 abbrev reversing : State → List ℕ → Memory → Outcome
-reversing st ws m = sheetCall edition1 3 1 reversal st ws m (zeros 2)
+reversing st ws m = sheetCall edition1 3 1 reversal (record { state = st; came = ws; memory = m; out = zeros 2 })
 
 first : reversing (state 0 0 4) (10 ∷ 11 ∷ []) (zeroed 16) ≡ record {
   refusal = none;
@@ -86,7 +86,7 @@ unfolding computed
 numbers = refl
 
 -- at n 2, k 2, write wiring 1 1 and read wiring 0 0
-clashes : map (λ (r, ws). sheetCall edition1 2 2 (set (set (zeros 64) 10 1) 11 1) (state 0 0 r) ws (zeroed 8) (zeros 4) .refusal) ((1, zeros 4) ∷ (0, []) ∷ [])
+clashes : map (λ (r, ws). sheetCall edition1 2 2 (set (set (zeros 64) 10 1) 11 1) (record { state = state 0 0 r; came = ws; memory = zeroed 8; out = zeros 4 }) .refusal) ((1, zeros 4) ∷ (0, []) ∷ [])
     ≡ some (WriteClash (record { 0 = 0 }) (record { 0 = 3 })) ∷ some (ReadClash (record { 0 = 0 }) (record { 0 = 1 })) ∷ []
 unfolding computed
 clashes = refl

@@ -17,55 +17,55 @@ use Rattle.kinds.specs.Edition.{Edition}
 use Rattle.kinds.specs.Frame.{ticks}
 use Rattle.kinds.specs.First.{Reason}
 use Rattle.kinds.proofs.AnswerLaws.{said-same}
+use Rattle.kinds.specs.Lengths.{orNone, IsLength}
 use Rattle.maps.specs.declared.Opened.{Opened}
 use Rattle.maps.proofs.OpenLaws.{sides-unique}
 use Rattle.switches.specs.Cells.{M, N}
 use Rattle.switches.proofs.CellLaws.{cell-into}
 use Rattle.state.specs.States.{Possible}
 use Rattle.state.specs.declared.State.{State}
-use Rattle.memory.specs.Memory.{Memory, filledMarks}
+use Rattle.memory.specs.Memory.{filledMarks}
 use Rattle.call.specs.Call.{Outcome}
-use Rattle.call.specs.Tool.{rightTick, handedOut}
-use Rattle.call.specs.declared.Ticked.{Ticked}
+use Rattle.call.specs.Tool.{Lent, Left, Lengths, handedOut}
 use Rattle.call.proofs.CallLaws.{call-given, call-idle, call-possible, call-filled}
 use Rattle.call.proofs.ToolLaws.{comes-unique}
-use Rattle.run.specs.Tool.{ChecksRun, beforeFaults, sheetCall, Ticks}
-use Rattle.run.proofs.TableLaws.{Sound, run-sound}
+use Rattle.run.specs.Tool.{ChecksRun, beforeFaults, sheetCall, Runs}
+use Rattle.run.specs.Sound.{Sound}
+use Rattle.run.proofs.TableLaws.{run-sound}
 
-module _ (e : Edition) (n k : ℕ) (s : List ℕ) (st : State) (ws : List ℕ) (m : Memory) (out : List ℕ) where
+module _ (e : Edition) (n k : ℕ) (s : List ℕ) (b : Lent) where
   abbrev before : List Reason
-  before = beforeFaults e n k s st ws m out
+  before = beforeFaults e n k s b
 
   abbrev sheet-call : Outcome
-  sheet-call = sheetCall e n k s st ws m out
+  sheet-call = sheetCall e n k s b
 
   module _ (ok : sheet-call .refusal ≡ none) where
-    pub sheet-call-sound : Sound e n k s st ws m out
-    sheet-call-sound = run-sound e n k s st ws m out .0 (sym (call-given before n k (M e n k s) (N e n k s) st ws m) ∙ ok)
+    pub sheet-call-sound : Sound e n k s b
+    sheet-call-sound = run-sound e n k s b .0 (sym (call-given before n k (M e n k s) (N e n k s) (b .state) (b .came) (b .memory)) ∙ ok)
 
     pub sheet-call-possible : Possible (ticks n k) (sheet-call .state)
-    sheet-call-possible = call-possible before n k (M e n k s) (N e n k s) st ws m ok (sheet-call-sound .possible)
+    sheet-call-possible = call-possible before n k (M e n k s) (N e n k s) (b .state) (b .came) (b .memory) ok (sheet-call-sound .possible)
 
-    pub sheet-call-filled : (filledMarks (sheet-call .memory .marks) + cond (sheet-call .handed) (2 ^ k) 0 ≡ filledMarks (m .marks) + length ws)
-        × (length ws ≡ rightTick k (length ws))
+    pub sheet-call-filled : (filledMarks (sheet-call .memory .marks) + cond (sheet-call .handed) (2 ^ k) 0 ≡ filledMarks (b .memory .marks) + length (b .came))
+        × IsLength (length (b .came)) (orNone (2 ^ k))
     sheet-call-filled =
         let sound = sheet-call-sound in
         let (_, (came, (_, (_, (marks, _))))) = sound .right in
         let within : k ≤ n = omega (arith, sound .sized .most) in (
-          call-filled before n k (M e n k s) (N e n k s) st ws m ok (cell-into (sound .formed .write .used) within) (cell-into (sound .formed .read .used) within) (sound .possible .half)
-              marks came,
+          call-filled before n k (M e n k s) (N e n k s) (b .state) (b .came) (b .memory) ok (cell-into (sound .formed .write .used) within)
+              (cell-into (sound .formed .read .used) within) (sound .possible .half) marks came,
           came,
         )
 
-  pub ticks-idle : (a : Ticked) (m' : Memory) (out' : List ℕ) → Ticks e n k s st ws m out a m' out' → handedOut a ≡ false → out' ≡ out
-  ticks-idle a m' out' c idle =
-      c .buffer ∙ ap (λ (l : List ℕ). onto l out) (call-idle (beforeFaults e n k s st ws m out) n k (M e n k s) (N e n k s) st ws m (sym (c .handed) ∙ idle))
+  pub ticks-idle : (l : Left) → Runs e n k s b l → handedOut (l .answer) ≡ false → l .out ≡ b .out
+  ticks-idle l c idle =
+      c .buffer ∙ ap (λ (x : List ℕ). onto x (b .out)) (call-idle before n k (M e n k s) (N e n k s) (b .state) (b .came) (b .memory) (sym (c .handed) ∙ idle))
 
-  pub ticks-unique : (a b : Ticked) {v w : Memory} {l r : List ℕ} → Ticks e n k s st ws m out a v l → Ticks e n k s st ws m out b w r → (a ≡ b) × (v ≡ w) × (l ≡ r)
-  ticks-unique a b x y = comes-unique x y
+  pub ticks-unique : {l r : Left} → Runs e n k s b l → Runs e n k s b r → l ≡ r
+  ticks-unique x y = comes-unique x y
 
-pub checks-run-unique : {e : Edition} {n k : ℕ} {s : List ℕ} {st : State} {came out words marks : ℕ} (r q : Opened)
-    → ChecksRun e n k s st came out words marks r → ChecksRun e n k s st came out words marks q → r ≡ q
+pub checks-run-unique : {e : Edition} {n k : ℕ} {s : List ℕ} {st : State} {l : Lengths} (r q : Opened) → ChecksRun e n k s st l r → ChecksRun e n k s st l q → r ≡ q
 checks-run-unique r q a b =
     sides-unique r q (said-same (r .answer) (q .answer) (a .answer ∙ sym (b .answer)))
     (λ d. (a .write d, a .read d)) (λ d. (b .write d, b .read d)) (a .refused) (b .refused)

@@ -1,2 +1,3 @@
 -- The run as a tool.
 pub mod Tool
+pub mod Sound

@@ -1,7 +1,7 @@
 // The run: one tick of any sheet.
 ghost use Rattle.kinds.specs.Edition.{edition1};
-ghost use Rattle.run.specs.Tool.{ChecksRun, Ticks};
-use call::Ticked;
+ghost use Rattle.run.specs.Tool.{ChecksRun, Runs};
+use call::RunAnswer;
 use kinds::Answer;
 use kinds::Refusal;
 use maps::Opened;
@@ -17,10 +17,10 @@ pub fn tick(
     out: &mut [u32],
     words: &mut [u32],
     marks: &mut [u8],
-) -> Ticked
-    ensures { λ r. ⌜ Ticks edition1 n k (now (sheet .entry)) state (now (came .entry))
-        (record { words = now (words .entry); marks = now (marks .entry) }) (now (out .entry)) r
-        (record { words = now (words .exit); marks = now (marks .exit) }) (now (out .exit)) ⌝ }
+) -> RunAnswer
+    ensures { λ r. ⌜ Runs edition1 n k (now (sheet .entry))
+        (record { state = state; came = now (came .entry); memory = record { words = now (words .entry); marks = now (marks .entry) }; out = now (out .entry) })
+        (record { answer = r; memory = record { words = now (words .exit); marks = now (marks .exit) }; out = now (out .exit) }) ⌝ }
 {
     let begun = check(
         n,
@@ -34,7 +34,7 @@ pub fn tick(
     );
     let checked = begun.answer;
     if let Answer::Refused(refusal) = checked {
-        return Ticked::Refused(refusal);
+        return RunAnswer::Refused(refusal);
     }
     call::call(
         n,
@@ -60,7 +60,7 @@ pub fn check(
     words: usize,
     marks: usize,
 ) -> Opened
-    ensures { λ r. ⌜ ChecksRun edition1 n k (now (sheet .entry)) state came out words marks r ⌝ }
+    ensures { λ r. ⌜ ChecksRun edition1 n k (now (sheet .entry)) state (record { came = came; out = out; words = words; marks = marks }) r ⌝ }
 {
     let fits = call::lengths_fit(n, k, came, out, words, marks);
     let sides = maps::open(n, k, sheet, fits);

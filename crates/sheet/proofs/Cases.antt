@@ -7,14 +7,14 @@ use mathlib.Core.Path.{_≡_, refl}
 use mathlib.Core.List.{List, [], _∷_, _++_, map}
 use native.Mathlib.Decide.{ℕ-discrete, decLe, decLt}
 use lib.ListN.{set, replicate}
-use Rattle.kinds.specs.Edition.{edition1, sized?}
+use Rattle.kinds.specs.Edition.{edition1}
+use Rattle.kinds.specs.Decisions.{sized?, rightLengths?}
 use Rattle.kinds.specs.Refusal.{given}
 use Rattle.kinds.specs.First.{firstOf}
-use Rattle.kinds.specs.Reasons.{rightLengths?}
 use Rattle.kinds.specs.Search.{eachBelow}
-use Rattle.bits.specs.Image.{allBelow?}
+use Rattle.bits.specs.Decisions.{allBelow?}
 use Rattle.sheet.specs.Sheet.{stagesIn, writeSide, readSide}
-use Rattle.sheet.specs.Layout.{fromTo?, stageInRange?, eachStage?, inRange?, allZero?, formedSide?, wellFormed?}
+use Rattle.sheet.specs.Decisions.{fromTo?, stageInRange?, eachStage?, inRange?, allZero?, formedSide?, wellFormed?}
 use Rattle.sheet.specs.Table.{sheetTable}
 
 abbrev zeros : ℕ → List ℕ

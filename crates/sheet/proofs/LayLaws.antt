@@ -1,4 +1,5 @@
 -- A side that is laid out is read as it was written.
+--   Layable e n k S   the side S can be laid out: n address columns, k wiring columns and no more stages than there are places for, all in range
 --   padded-used       padding a list or its beginning is the same where the rest is zero
 --   flat-length       there are two numbers for a stage
 --   stage-more        one stage more, written after the others
@@ -19,9 +20,16 @@ use Rattle.bits.proofs.ImageLaws.{zeros-at}
 use Rattle.bits.proofs.PaddedLaws.{padded-length, padded-at, padded-unique, padded-snoc}
 use Rattle.sheet.specs.Sheet.{Stage, Side, addressPlaces, wiringPlaces, countPlace, stagePlaces, stageAt, stagesIn, stagesFrom, sideOf, writePlaces, readPlaces, writeSide, readSide, flat, laidOut, sheetOf}
 use Rattle.bits.specs.Padded.{paddedTo}
-use Rattle.sheet.specs.Layout.{AllZero, FormedSide, WellFormed, Layable}
-use Rattle.sheet.proofs.StageLaws.{same-stages}
+use Rattle.sheet.specs.Layout.{InRange, AllZero, FormedSide, WellFormed}
+use Rattle.kinds.proofs.FrameLaws.{in-order-same}
+use Rattle.sheet.proofs.StageLaws.{stages-none, stages-snoc, same-stages}
 use Rattle.sheet.proofs.PlaceLaws.{take-same}
+
+pub record Layable (e : Edition) (n k : ℕ) (S : Side) : Type 0 where
+  pub addresses : length (S .addresses) ≡ n
+  pub wiring : length (S .wiring) ≡ k
+  pub stages : length (S .stages) ≤ e .most-stages
+  pub used : InRange n k S
 
 module _ (m : ℕ) (l : List ℕ) where
   abbrev zeros : List ℕ
@@ -55,10 +63,10 @@ stage-more m ss s h =
     ∙ ap (paddedTo m) (append-assoc (flat ss) (s .direction ∷ []) (s .control ∷ []) ∙ sym (flat-snoc ss s))
 
 pub flat-part : (m : ℕ) (l : List ℕ) → 2 * m ≤ length l → flat (stagesIn m l) ≡ take (2 * m) l
-unfolding stagesIn
-flat-part zero l h = refl
+flat-part zero l h = ap flat (stages-none l)
 flat-part (suc m) l h =
-    flat-snoc (stagesIn m l) (stageAt l m)
+    ap flat (stages-snoc m l)
+    ∙ flat-snoc (stagesIn m l) (stageAt l m)
     ∙ ap (λ (x : List ℕ). x ++ (getD l (2 * m) 0 ∷ getD l (2 * m + 1) 0 ∷ [])) (flat-part m l (omega arith))
     ∙ sym (append-assoc (take (2 * m) l) (getD l (2 * m) 0 ∷ []) (getD l (2 * m + 1) 0 ∷ []))
     ∙ ap (λ (x : List ℕ). x ++ (getD l (2 * m + 1) 0 ∷ [])) (sym (take-suc l (2 * m) 0 (omega arith)))
@@ -71,16 +79,15 @@ from-flat l even = flat-part (length l / 2) l (omega arith) ∙ take-all (2 * (l
 
 stages-cons : (m d c : ℕ) (l : List ℕ) → stagesIn (suc m) (d ∷ c ∷ l) ≡ record { direction = d; control = c } ∷ stagesIn m l
 unfolding stagesIn
-stages-cons zero d c l = refl
-stages-cons (suc m) d c l =
-    let first : 2 * suc m ≡ suc (suc (2 * m)) = omega arith in
-    let second : 2 * suc m + 1 ≡ suc (suc (2 * m + 1)) = omega arith in
-    ap₂ (λ (ss : List Stage) (s : Stage). ss ++ (s ∷ [])) (stages-cons m d c l)
-    (ap₂ (λ (x y : ℕ). record { direction = getD (d ∷ c ∷ l) x 0; control = getD (d ∷ c ∷ l) y 0 }) first second)
+stages-cons m d c l =
+    ap (λ (ss : List Stage). record { direction = d; control = c } ∷ ss)
+    (in-order-same m (λ s. stageAt (d ∷ c ∷ l) (suc s)) (stageAt l) (λ s h.
+    let first : 2 * suc s ≡ suc (suc (2 * s)) = omega arith in
+    let second : 2 * suc s + 1 ≡ suc (suc (2 * s + 1)) = omega arith in
+    ap₂ (λ (x y : ℕ). record { direction = getD (d ∷ c ∷ l) x 0; control = getD (d ∷ c ∷ l) y 0 }) first second))
 
 pub flat-stages : (ss : List Stage) → stagesIn (length ss) (flat ss) ≡ ss
-unfolding stagesIn
-flat-stages [] = refl
+flat-stages [] = stages-none []
 flat-stages (s ∷ ss) = stages-cons (length ss) (s .direction) (s .control) (flat ss) ∙ ap (λ (ts : List Stage). s ∷ ts) (flat-stages ss)
 
 pub flat-from : (ss : List Stage) → stagesFrom (flat ss) ≡ ss

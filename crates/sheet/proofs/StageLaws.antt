@@ -1,5 +1,6 @@
 -- The stages of a side, one by one.
 --   stages-length   the first m stages are m
+--   stages-none, stages-snoc    there are no first 0 stages; one stage more
 --   same-stages     places that show the same numbers have the same stages
 --   each-of         the stages for some numbers all have Q when the stage for each of the numbers has
 --   each-stage      the first m stages all have Q exactly when the stage at each place below m has
@@ -9,51 +10,47 @@ use mathlib.Core.Path.{_≡_, refl, ap₂}
 use mathlib.Core.List.{List, [], _∷_, _++_, map}
 use mathlib.Core.Logic.{_↔_}
 use native.Mathlib.Omega.{arith}
-use borrow.Author.Count.{below-more}
-use lib.ListN.{length, getD, length-append}
+use lib.ListN.{length, getD}
 use Rattle.kinds.specs.Edition.{Edition}
-use Rattle.kinds.specs.Frame.{tickBits}
+use Rattle.kinds.specs.Frame.{tickBits, inOrder}
+use Rattle.kinds.proofs.FrameLaws.{in-order-length, in-order-same, in-order-snoc}
 use Rattle.sheet.specs.Sheet.{Stage, countPlace, stagePlaces, stageAt, stagesIn}
 use Rattle.sheet.specs.Layout.{StageInRange, EachStage, FormedSide}
 
 pub stages-length : (m : ℕ) (l : List ℕ) → length (stagesIn m l) ≡ m
 unfolding stagesIn
-stages-length zero l = refl
-stages-length (suc m) l = omega (arith, length-append (stagesIn m l) (stageAt l m ∷ []), stages-length m l)
+stages-length m l = in-order-length m (stageAt l)
+
+pub stages-none : (l : List ℕ) → stagesIn 0 l ≡ []
+unfolding stagesIn
+stages-none l = refl
+
+pub stages-snoc : (m : ℕ) (l : List ℕ) → stagesIn (suc m) l ≡ stagesIn m l ++ (stageAt l m ∷ [])
+unfolding stagesIn
+stages-snoc m l = in-order-snoc m (stageAt l)
 
 pub same-stages : (m : ℕ) (l r : List ℕ) → ((j : ℕ) → getD l j 0 ≡ getD r j 0) → stagesIn m l ≡ stagesIn m r
 unfolding stagesIn
-same-stages zero l r same = refl
-same-stages (suc m) l r same =
-    ap₂ (λ (ss : List Stage) (s : Stage). ss ++ (s ∷ [])) (same-stages m l r same)
-    (ap₂ (λ (d c : ℕ). record { direction = d; control = c }) (same (2 * m)) (same (2 * m + 1)))
+same-stages m l r same =
+    in-order-same m (stageAt l) (stageAt r) (λ s h. ap₂ (λ (d c : ℕ). record { direction = d; control = c }) (same (2 * s)) (same (2 * s + 1)))
 
 module _ (Q : Stage → Type 0) where
-  each-append : (ss ts : List Stage) → EachStage Q (ss ++ ts) ↔ (EachStage Q ss × EachStage Q ts)
-  each-append [] ts = (λ e. (tt, e), λ (_, e). e)
-  each-append (s ∷ ss) ts =
-      let rest = each-append ss ts in
-      (λ (q, e). ((q, rest .0 e .0), rest .0 e .1), λ ((q, e), f). (q, rest .1 (e, f)))
-
   pub each-of : (stage : ℕ → Stage) (ps : List ℕ) → ((s : ℕ) → s < length ps → Q (stage (getD ps s 0))) → EachStage Q (map stage ps)
   each-of stage [] each = tt
   each-of stage (p ∷ ps) each = (each 0 (omega arith), each-of stage ps (λ s h. each (suc s) (omega arith)))
 
-  module _ (l : List ℕ) where
-    each-at : (m : ℕ) → EachStage Q (stagesIn m l) → (s : ℕ) → s < m → Q (stageAt l s)
-    unfolding stagesIn
-    each-at zero e s h = absurd (omega arith)
-    each-at (suc m) e s h =
-        let (before, (last, _)) = each-append (stagesIn m l) (stageAt l m ∷ []) .0 e in
-        below-more (λ s. Q (stageAt l s)) m (each-at m before) last s (omega arith)
+  each-in-order : (m : ℕ) (f : ℕ → Stage) → EachStage Q (inOrder m f) ↔ ((s : ℕ) → s < m → Q (f s))
+  unfolding inOrder
+  each-in-order zero f = (λ e s h. absurd (omega arith), λ each. tt)
+  each-in-order (suc m) f =
+      let rest = each-in-order m (λ i. f (suc i)) in (
+        λ (first, e) s. elim s [ zero ↦ λ h. first | suc i ↦ λ h. rest .0 e i (omega arith) ],
+        λ each. (each 0 (omega arith), rest .1 (λ s h. each (suc s) (omega arith))),
+      )
 
-    at-each : (m : ℕ) → ((s : ℕ) → s < m → Q (stageAt l s)) → EachStage Q (stagesIn m l)
-    unfolding stagesIn
-    at-each zero h = tt
-    at-each (suc m) h = each-append (stagesIn m l) (stageAt l m ∷ []) .1 (at-each m (λ s b. h s (omega arith)), (h m (omega arith), tt))
-
-    pub each-stage : (m : ℕ) → EachStage Q (stagesIn m l) ↔ ((s : ℕ) → s < m → Q (stageAt l s))
-    each-stage m = (each-at m, at-each m)
+  pub each-stage : (l : List ℕ) (m : ℕ) → EachStage Q (stagesIn m l) ↔ ((s : ℕ) → s < m → Q (stageAt l s))
+  unfolding stagesIn
+  each-stage l m = each-in-order m (stageAt l)
 
 pub formed-stage : {e : Edition} {n k : ℕ} {l : List ℕ} → FormedSide e n k l
     → (s : ℕ) → s < countPlace e l → StageInRange (2 ^ k) (2 ^ tickBits n k) (stageAt (stagePlaces e l) s)

@@ -10,20 +10,22 @@ use mathlib.Core.Logic.{_↔_}
 use mathlib.Core.Option.{none}
 use native.Mathlib.Omega.{arith}
 use lib.ListN.{length}
-use Rattle.kinds.specs.Edition.{Edition, Sized, sized?, sheetPlaces}
+use Rattle.kinds.specs.Edition.{Edition, Sized, sheetPlaces}
+use Rattle.kinds.specs.Decisions.{sized?, rightLengths?}
 use Rattle.kinds.specs.Answers.{Checks}
 use Rattle.kinds.specs.Refusal.{said}
 use Rattle.kinds.specs.declared.Answer.{Answer}
 use Rattle.kinds.specs.declared.Answer.the-variants.{Done}
 use Rattle.kinds.specs.First.{firstOf, Ascending}
-use Rattle.kinds.specs.Reasons.{RightLengths, rightLengths?}
+use Rattle.kinds.specs.Lengths.{Wanted, RightLengths}
 use Rattle.kinds.proofs.TruthLaws.{stable}
 use Rattle.kinds.proofs.AnswerLaws.{some-lengths}
 use Rattle.kinds.proofs.FirstLaws.{first-none}
-use Rattle.sheet.specs.Layout.{WellFormed, wellFormed?}
+use Rattle.sheet.specs.Layout.{WellFormed}
+use Rattle.sheet.specs.Decisions.{wellFormed?}
 use Rattle.sheet.specs.Table.{sheetLengths, sheetTable}
 
-module _ (e : Edition) (n k : ℕ) (s : List ℕ) (others : List (ℕ × ℕ)) where
+module _ (e : Edition) (n k : ℕ) (s : List ℕ) (others : List (ℕ × Wanted)) where
   pub sheet-ascending : Ascending (sheetTable e n k s others)
   sheet-ascending = ((omega arith, (omega arith, tt)), ((omega arith, tt), (tt, tt)))
 

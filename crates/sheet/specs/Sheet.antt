@@ -12,10 +12,11 @@
 --   flat ss               the numbers of the stages ss, as they stand on a sheet: direction, control, direction, ..
 --   laidOut e S           all places of a side that says S. "Unused places are zero"
 --   sheetOf e W R         the sheet with the write side W and the read side R
-use Prim.Native.Nat.{ℕ, zero, suc, _+_, _*_, _/_}
+use Prim.Native.Nat.{ℕ, _+_, _*_, _/_}
 use mathlib.Core.List.{List, [], _∷_, _++_}
 use lib.ListN.{length, take, drop, getD}
 use Rattle.kinds.specs.Edition.{Edition, sidePlaces}
+use Rattle.kinds.specs.Frame.{inOrder}
 use Rattle.bits.specs.Padded.{paddedTo}
 
 pub record Stage : Type 0 where
@@ -43,8 +44,8 @@ abbrev pub stageAt : List ℕ → ℕ → Stage
 stageAt l s = record { direction = getD l (2 * s) 0; control = getD l (2 * s + 1) 0 }
 
 unfoldable pub stagesIn : ℕ → List ℕ → List Stage
-stagesIn zero l = []
-stagesIn (suc s) l = stagesIn s l ++ (stageAt l s ∷ [])
+unfolding inOrder
+stagesIn m l = inOrder m (stageAt l)
 
 abbrev pub stagesFrom : List ℕ → List Stage
 stagesFrom l = stagesIn (length l / 2) l

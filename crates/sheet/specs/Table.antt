@@ -5,17 +5,19 @@
 use Prim.Native.Nat.{ℕ}
 use mathlib.Core.List.{List, [], _∷_, _++_}
 use lib.ListN.{length}
-use Rattle.kinds.specs.Edition.{Edition, sheetPlaces, sized?}
+use Rattle.kinds.specs.Edition.{Edition, sheetPlaces}
+use Rattle.kinds.specs.Decisions.{sized?}
 use Rattle.kinds.specs.First.{Reason, unless}
 use Rattle.kinds.specs.Reasons.{outside, wrongLength}
 use Rattle.kinds.specs.declared.Refusal.the-variants.{Layout}
-use Rattle.sheet.specs.Layout.{wellFormed?}
+use Rattle.kinds.specs.Lengths.{Wanted, exactly}
+use Rattle.sheet.specs.Decisions.{wellFormed?}
 
 abbrev pub brokenLayout : Edition → ℕ → ℕ → List ℕ → Reason
 brokenLayout e n k s = unless Layout (wellFormed? e n k s)
 
-abbrev pub sheetLengths : Edition → List ℕ → List (ℕ × ℕ)
-sheetLengths e s = (length s, sheetPlaces e) ∷ []
+abbrev pub sheetLengths : Edition → List ℕ → List (ℕ × Wanted)
+sheetLengths e s = (length s, exactly (sheetPlaces e)) ∷ []
 
-abbrev pub sheetTable : Edition → ℕ → ℕ → List ℕ → List (ℕ × ℕ) → List Reason
+abbrev pub sheetTable : Edition → ℕ → ℕ → List ℕ → List (ℕ × Wanted) → List Reason
 sheetTable e n k s others = outside (sized? e n k) ∷ wrongLength (sheetLengths e s ++ others) ∷ brokenLayout e n k s ∷ []

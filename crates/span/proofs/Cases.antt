@@ -3,10 +3,8 @@ use Prim.Native.Nat.{ℕ}
 use mathlib.Core.Path.{_≡_, refl}
 use mathlib.Core.List.{List, [], _∷_, _++_, map}
 use native.Mathlib.Decide.{ℕ-discrete}
-use lib.Count.{ones}
 use lib.ListN.{length}
 use Rattle.bits.specs.Image.{image}
-use Rattle.bits.specs.Parity.{parity, dot}
 use Rattle.span.specs.Scan.{keptAt, mask}
 use Rattle.span.specs.Rows.{rows}
 
@@ -18,7 +16,7 @@ scanned vs = keptAt vs (length vs)
 -- n 4, k 2, columns 2 4 8 1: row 0 of P1 is not kept, row 0 of P3 is: the read stage is (1,1).
 kept-rows : map scanned ((rows 1 (0 ∷ []) ++ rows 2 (2 ∷ [])) ∷ (rows 2 (2 ∷ 0 ∷ []) ++ rows 2 (0 ∷ 1 ∷ [])) ∷ [])
     ≡ (2 ∷ []) ∷ (1 ∷ 2 ∷ []) ∷ []
-unfolding scanned keptAt image ℕ-discrete rows dot parity ones
+unfolding scanned keptAt image ℕ-discrete rows
 kept-rows = refl
 
 -- 6 is 3 and 5, 7 is 3 and 4; 0 is the empty sum

@@ -1,4 +1,5 @@
 -- Independent rows have dual vectors, by adding a row at the front; with them a map by rows can be undone.
+--   Duals k R           dual vectors of the rows R, of k bits each: row l AND vector j has an odd number of ones exactly when l is j
 --   independent-tail    without its first member a list stays independent
 --   independent-head    the first member of an independent list is no sum of the others
 --   rows-of-duals          the rows make of a sum of duals its selection
@@ -23,8 +24,14 @@ use Rattle.bits.proofs.ParityLaws.{bit-same, bit-other, dot-lt, dot-comm, dot-z
 use Rattle.bits.proofs.ImageLaws.{image-cons, image-xor, image-unit, image-lt, linear-agree, columns-length, columns-at}
 use Rattle.kinds.specs.Search.{someBelow}
 use Rattle.span.specs.Sums.{SumOf, Independent}
-use Rattle.span.specs.Rows.{dots, Duals}
+use Rattle.span.specs.Rows.{dots}
 use Rattle.span.proofs.RowLaws.{dots-bit, dots-nil, dots-cons, dots-lt, dots-xor, dot-image, dot-same}
+
+pub record Duals (k : ℕ) (rs : List ℕ) : Type 0 where
+  pub vectors : List ℕ
+  pub count : length vectors ≡ length rs
+  pub below : AllBelow (2 ^ k) vectors
+  pub dual : (j : ℕ) → j < length rs → dots rs (getD vectors j 0) ≡ 2 ^ j
 
 image-low : (r : ℕ) (rs : List ℕ) (b m : ℕ) → b < 2 → image (r ∷ rs) (b + 2 * m) ≡ bitXor (chosen b r) (image rs m)
 image-low r rs b m h =

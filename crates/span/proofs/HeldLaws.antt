@@ -1,4 +1,5 @@
 -- What a scan in hand holds: its entries are made of kept numbers, and any sum of those begins where a row does.
+--   entry v m              the entry of the number v and the mask m
 --   made-zero, made-xor    entries made of vs add up, masks and rows alike
 --   made-entry, made-parts an entry by its row and its mask
 --   made-more              what is made of vs is made of vs with a number added
@@ -27,19 +28,22 @@ use Rattle.bits.specs.Image.{image, AllBelow}
 use Rattle.bits.proofs.XorLaws.{xor-assoc, xor-cancel, xor-swap, xor-zero-eq}
 use Rattle.bits.proofs.ImageLaws.{zeros-at, below-append, below-one, image-nil, image-zero, image-xor, image-lt, image-prefix}
 use Rattle.span.specs.Sums.{SumOf}
-use Rattle.span.specs.Scan.{members, keptAt, kept, IsKept, units, mask}
-use Rattle.span.specs.Held.{width, entry, rowOf, maskOf, Made, Echelon}
+use Rattle.span.specs.Scan.{members, keptAt, kept, units, mask}
+use Rattle.span.specs.Held.{width, rowOf, maskOf, MadeOf, Echelon}
 use Rattle.span.proofs.SumLaws.{length-snoc, sum-image, sum-zero, sum-xor, sum-snoc}
-use Rattle.span.proofs.ScanLaws.{keptAt-below, keptAt-prefix, keptAt-more}
+use Rattle.span.proofs.ScanLaws.{keptAt-below, keptAt-prefix, keptAt-more, IsKept}
 use Rattle.span.proofs.MaskLaws.{image-over, over-below, mask-sum, mask-over, mask-unique, mask-kept}
 use Rattle.span.proofs.RankLaws.{kept-all-below}
 use Rattle.span.proofs.SnocLaws.{next-at, IsKept-snoc, kept-old, kept-new}
 use Rattle.span.proofs.LeadingLaws.{leading-lt, leading-falls, leading-high, leading-xor}
 
-pub made-zero : (vs : List ℕ) → Made vs 0
+abbrev pub entry : ℕ → ℕ → ℕ
+entry v m = v * 2 ^ width + m
+
+pub made-zero : (vs : List ℕ) → MadeOf vs 0
 made-zero vs = record { over-kept = sum-zero (units (keptAt vs (length vs))); sum = image-zero vs }
 
-pub made-xor : {vs : List ℕ} {a b : ℕ} → Made vs a → Made vs b → Made vs (bitXor a b)
+pub made-xor : {vs : List ℕ} {a b : ℕ} → MadeOf vs a → MadeOf vs b → MadeOf vs (bitXor a b)
 made-xor {vs} {a} {b} p q = record {
   over-kept = rw (xor-mod a b width) (sum-xor (p .over-kept) (q .over-kept));
   sum =
@@ -47,13 +51,13 @@ made-xor {vs} {a} {b} p q = record {
 }
 
 module _ {vs : List ℕ} {v m : ℕ} (h : m < 2 ^ width) where
-  pub made-entry : SumOf (units (keptAt vs (length vs))) m → image vs m ≡ v → Made vs (entry v m)
+  pub made-entry : SumOf (units (keptAt vs (length vs))) m → image vs m ≡ v → MadeOf vs (entry v m)
   made-entry s e = record { over-kept = rw (low v width h) s; sum = ap (image vs) (low v width h) ∙ e ∙ sym (high v width h) }
 
-  pub made-parts : Made vs (entry v m) → SumOf (units (keptAt vs (length vs))) m × (image vs m ≡ v)
+  pub made-parts : MadeOf vs (entry v m) → SumOf (units (keptAt vs (length vs))) m × (image vs m ≡ v)
   made-parts a = (rw (low v width h) at (a .over-kept), (ap (image vs) (sym (low v width h)) ∙ a .sum ∙ high v width h))
 
-pub made-sum : {vs : List ℕ} {e : ℕ} → Made vs e → SumOf (kept vs) (rowOf e)
+pub made-sum : {vs : List ℕ} {e : ℕ} → MadeOf vs e → SumOf (kept vs) (rowOf e)
 unfolding kept
 made-sum {vs} {e} a =
     let ps = keptAt vs (length vs) in
@@ -97,7 +101,7 @@ module _ (vs : List ℕ) (v : ℕ) where
   abbrev more : List ℕ
   more = vs ++ (v ∷ [])
 
-  pub made-more : {e : ℕ} → Made vs e → Made more e
+  pub made-more : {e : ℕ} → MadeOf vs e → MadeOf more e
   made-more {e} a =
       let s = a .over-kept in
       let ps = keptAt vs (length vs) in
@@ -111,7 +115,7 @@ module _ (vs : List ℕ) (v : ℕ) where
   narrow-more h b = below-append (2 ^ width) vs (v ∷ []) b (below-one (2 ^ width) v h)
 
   -- v as a member of the longer list, by its own mask
-  made-own : mask more (length vs) < 2 ^ width → Made more (entry v (mask more (length vs)))
+  made-own : mask more (length vs) < 2 ^ width → MadeOf more (entry v (mask more (length vs)))
   made-own h = made-entry h (rw (length-snoc vs v) (mask-over more (length vs))) (mask-sum more (length vs) ∙ next-at vs v)
 
 pub echelon-none : Echelon (replicate width 0) []
@@ -125,7 +129,7 @@ echelon-none = record {
 }
 
 -- v is made up by the mask m
-module _ {vs : List ℕ} (v : ℕ) {m : ℕ} (short : m < 2 ^ width) (a : Made vs (entry v m)) where
+module _ {vs : List ℕ} (v : ℕ) {m : ℕ} (short : m < 2 ^ width) (a : MadeOf vs (entry v m)) where
   pub made-up : SumOf (kept vs) v
   made-up = rw (high v width short) at (made-sum a)
 
@@ -147,16 +151,16 @@ module _ {vs : List ℕ} (v : ℕ) {m : ℕ} (short : m < 2 ^ width) (a : Made v
       mask-unique (vs ++ (v ∷ [])) (length vs) (omega arith) (rw (length-snoc vs v) at (p .0)) (p .1 ∙ sym (next-at vs v))
 
 -- what was taken from v is a sum of those kept; were v one, so would be the row that is left
-taken : {vs : List ℕ} (v left : ℕ) → Made vs (bitXor (v * 2 ^ width) left) → SumOf (kept vs) (bitXor v (rowOf left))
+taken : {vs : List ℕ} (v left : ℕ) → MadeOf vs (bitXor (v * 2 ^ width) left) → SumOf (kept vs) (bitXor v (rowOf left))
 taken v left a = rw (xor-shr (v * 2 ^ width) left width ∙ ap (λ (x : ℕ). bitXor x (rowOf left)) (shl-shr v width)) at (made-sum a)
 
-pub no-sum : {es vs : List ℕ} (v left : ℕ) → Echelon es vs → Made vs (bitXor (v * 2 ^ width) left) → rowOf left ≢ 0
+pub no-sum : {es vs : List ℕ} (v left : ℕ) → Echelon es vs → MadeOf vs (bitXor (v * 2 ^ width) left) → rowOf left ≢ 0
     → getD es (leadingZeros width (rowOf left)) 0 ≡ 0 → ¬ SumOf (kept vs) v
 no-sum v left h a rest stuck s = h .complete (rowOf left) (rw (xor-cancel v (rowOf left)) at (sum-xor s (taken v left a))) rest stuck
 
 -- v leaves a row, at a place without an entry
 module _ {es vs : List ℕ} {v left own : ℕ} (fits : v < 2 ^ width) (wide : left < 2 ^ (width + width)) (h : Echelon es vs)
-    (a : Made vs (bitXor (v * 2 ^ width) left)) (rest : rowOf left ≢ 0) (stuck : getD es (leadingZeros width (rowOf left)) 0 ≡ 0)
+    (a : MadeOf vs (bitXor (v * 2 ^ width) left)) (rest : rowOf left ≢ 0) (stuck : getD es (leadingZeros width (rowOf left)) 0 ≡ 0)
     (room : length vs < width) (own-is : own ≡ 2 ^ length vs) where
   abbrev z : ℕ
   z = leadingZeros width (rowOf left)
@@ -179,10 +183,10 @@ module _ {es vs : List ℕ} {v left own : ℕ} (fits : v < 2 ^ width) (wide : le
   pub mask-new : own ≡ mask (vs ++ (v ∷ [])) (length vs)
   mask-new = own-is ∙ sym (mask-kept (vs ++ (v ∷ [])) (length vs) kept-rest)
 
-  made-rest : Made (vs ++ (v ∷ [])) (bitXor left own)
+  made-rest : MadeOf (vs ++ (v ∷ [])) (bitXor left own)
   made-rest =
       let top : ℕ = v * 2 ^ width in
-      let by-own : Made (vs ++ (v ∷ [])) (bitXor top own) = rw (xor-shifted v width own own-short, mask-new) (made-own vs v (rw mask-new at own-short)) in
+      let by-own : MadeOf (vs ++ (v ∷ [])) (bitXor top own) = rw (xor-shifted v width own own-short, mask-new) (made-own vs v (rw mask-new at own-short)) in
       rw (xor-swap top left top own ∙ ap (λ (x : ℕ). bitXor x (bitXor left own)) (xor-self top)) at (made-xor (made-more vs v a) by-own)
 
   row-rest : rowOf (bitXor left own) ≡ rowOf left
@@ -200,7 +204,7 @@ module _ {es vs : List ℕ} {v left own : ℕ} (fits : v < 2 ^ width) (wide : le
     | no n ↦ rw (at-other y n) (h .leading y (λ e. there (at-other y n ∙ e)))
   ]
 
-  sound-new : (y : ℕ) → new-at y ≢ 0 → Made (vs ++ (v ∷ [])) (new-at y)
+  sound-new : (y : ℕ) → new-at y ≢ 0 → MadeOf (vs ++ (v ∷ [])) (new-at y)
   sound-new y there = elim (ℕ-discrete y z) [
     | yes e ↦ rw (e, at-z) made-rest
     | no n ↦ rw (at-other y n) (made-more vs v (h .sound y (λ e. there (at-other y n ∙ e))))

@@ -17,10 +17,10 @@ use Rattle.bits.specs.Image.{image}
 use Rattle.bits.specs.Parity.{bit, dot}
 use Rattle.bits.proofs.ParityLaws.{dot-unit, bit-same, bit-other, by-bits, dot-comm, dot-zero}
 use Rattle.span.specs.Rows.{dots}
-use Rattle.span.specs.Scan.{keptAt, sumBefore?, kept, others, units, over, mask}
+use Rattle.span.specs.Scan.{keptAt, kept, others, units, mask}
 use Rattle.span.specs.Sums.{Independent}
 use Rattle.span.proofs.RowLaws.{dots-lt, dots-bit, dot-image, dots-none, dots-cons}
-use Rattle.span.proofs.ScanLaws.{units-at, keptAt-ascending, keptAt-more}
+use Rattle.span.proofs.ScanLaws.{units-at, keptAt-ascending, keptAt-more, sumBefore?, over}
 use Rattle.span.proofs.MaskLaws.{image-over, mask-sum, mask-over, over-below}
 use Rattle.span.proofs.SumLaws.{independent-nil, independent-snoc}
 

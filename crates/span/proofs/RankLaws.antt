@@ -27,10 +27,10 @@ use Rattle.bits.proofs.ImageLaws.{image-zero, linear-image, columns-length, col
 use Rattle.kinds.proofs.SearchLaws.{those-count}
 use Rattle.span.specs.Maps.{Injective, Bijection}
 use Rattle.span.specs.Sums.{SumOf, Independent}
-use Rattle.span.specs.Scan.{members, keptAt, IsKept, kept, rank, others, sumBefore?, units, over}
+use Rattle.span.specs.Scan.{members, keptAt, kept, rank, others, units}
 use Rattle.span.proofs.Counting.{injective-onto, bijection-same}
 use Rattle.span.proofs.SumLaws.{length-snoc, sum-image, sum-member, sum-xor, sum-left, sum-right, sum-map, span-trans, independent-le, independent-width, independent-injective, bijection-independent}
-use Rattle.span.proofs.ScanLaws.{members-at, kept-those, keptAt-new, kept-independent, keptAt-below, scanned-sum}
+use Rattle.span.proofs.ScanLaws.{members-at, kept-those, keptAt-new, kept-independent, keptAt-below, scanned-sum, sumBefore?, over, IsKept}
 use Rattle.span.proofs.MaskLaws.{image-over, over-below, dependent-at}
 
 pub kept-all-independent : (vs : List ℕ) → Independent (kept vs)

@@ -8,8 +8,13 @@
 --   vanish-append  where two lists of rows make 0 of x, each does
 --   dot-image      the dot of a sum of rows and x is the dot of the selection and what the rows make of x
 --   dot-same       two numbers of k bits that have the same dot with each number of k bits are equal
+--   row-nil, row-cons    the definition, as equations
+--   row-dots       row i is what the columns, taken as rows, make of 2^i
+--   row-lt         a row has as many bits as there are columns
+--   row-bit        bit j of row i is bit i of column j
 --   rows-length    there are m rows
---   rows-at        row i is what the columns make of 2^i: bit i of each
+--   rows-row       row i of them is row i
+--   rows-at        which is what the columns make of 2^i
 --   rows-below     a row has as many bits as there are columns
 --   rows-bit       bit j of row i is bit i of column j
 --   rows-image     the rows of columns make of x its image under the columns
@@ -25,12 +30,13 @@ use lib.Bits.{bitXor}
 use lib.ListN.{length, getD}
 use lib.Pow.{pow-lt}
 use lib.Seq.{ext-getD}
-use Rattle.bits.specs.Image.{chosen, image, AllBelow, Linear, columns}
+use Rattle.kinds.proofs.FrameLaws.{in-order-length, in-order-at}
+use Rattle.bits.specs.Image.{chosen, image, AllBelow, Linear}
 use Rattle.bits.specs.Parity.{bit, dot}
 use Rattle.bits.proofs.XorLaws.{by-halves, even-or-odd, xor-half, xor-low}
 use Rattle.bits.proofs.ParityLaws.{dot-lt, dot-comm, dot-zero, dot-xor-right, dot-xor-left, dot-step, bit-suc, dot-unit, by-bits}
-use Rattle.bits.proofs.ImageLaws.{image-nil, image-cons, image-unit, image-lt, columns-length, columns-at}
-use Rattle.span.specs.Rows.{dots, rows}
+use Rattle.bits.proofs.ImageLaws.{image-nil, image-cons, image-unit, image-lt}
+use Rattle.span.specs.Rows.{dots, row, rows}
 
 pub dots-nil : (x : ℕ) → dots [] x ≡ 0
 unfolding dots
@@ -88,19 +94,41 @@ dot-image (r ∷ rs) s x =
 pub dot-same : (k a b : ℕ) → a < 2 ^ k → b < 2 ^ k → ((x : ℕ) → x < 2 ^ k → dot a x ≡ dot b x) → a ≡ b
 dot-same k a b h l same = by-bits k a b h l (λ j m. sym (dot-unit j a) ∙ same (2 ^ j) (pow-lt m) ∙ dot-unit j b)
 
+pub row-nil : (i : ℕ) → row [] i ≡ 0
+unfolding row
+row-nil i = refl
+
+pub row-cons : (c : ℕ) (cs : List ℕ) (i : ℕ) → row (c ∷ cs) i ≡ bit i c + 2 * row cs i
+unfolding row
+row-cons c cs i = refl
+
+pub row-dots : (cs : List ℕ) (i : ℕ) → row cs i ≡ dots cs (2 ^ i)
+row-dots [] i = row-nil i ∙ sym (dots-nil (2 ^ i))
+row-dots (c ∷ cs) i =
+    row-cons c cs i ∙ ap₂ (λ (a b : ℕ). a + 2 * b) (sym (dot-unit i c)) (row-dots cs i) ∙ sym (dots-cons c cs (2 ^ i))
+
+pub row-lt : (cs : List ℕ) (i : ℕ) → row cs i < 2 ^ length cs
+row-lt cs i = rw (row-dots cs i) (dots-lt cs (2 ^ i))
+
+pub row-bit : (cs : List ℕ) (i j : ℕ) → j < length cs → bit j (row cs i) ≡ bit i (getD cs j 0)
+row-bit cs i j h = ap (bit j) (row-dots cs i) ∙ dots-bit cs (2 ^ i) j h ∙ dot-unit i (getD cs j 0)
+
 pub rows-length : (m : ℕ) (cs : List ℕ) → length (rows m cs) ≡ m
-unfolding rows columns dots
-rows-length m cs = columns-length m (dots cs)
+unfolding rows
+rows-length m cs = in-order-length m (row cs)
+
+pub rows-row : (m : ℕ) (cs : List ℕ) (i : ℕ) → i < m → getD (rows m cs) i 0 ≡ row cs i
+unfolding rows
+rows-row m cs = in-order-at m (row cs) 0
 
 pub rows-at : (m : ℕ) (cs : List ℕ) (i : ℕ) → i < m → getD (rows m cs) i 0 ≡ dots cs (2 ^ i)
-unfolding rows columns dots
-rows-at m cs = columns-at m (dots cs)
+rows-at m cs i h = rows-row m cs i h ∙ row-dots cs i
 
 pub rows-below : (m : ℕ) (cs : List ℕ) → AllBelow (2 ^ length cs) (rows m cs)
-rows-below m cs = λ i h. rw (rows-at m cs i (omega (arith, rows-length m cs))) (dots-lt cs (2 ^ i))
+rows-below m cs = λ i h. rw (rows-row m cs i (omega (arith, rows-length m cs))) (row-lt cs i)
 
 pub rows-bit : (m : ℕ) (cs : List ℕ) (i j : ℕ) → i < m → j < length cs → bit j (getD (rows m cs) i 0) ≡ bit i (getD cs j 0)
-rows-bit m cs i j h l = ap (bit j) (rows-at m cs i h) ∙ dots-bit cs (2 ^ i) j l ∙ dot-unit i (getD cs j 0)
+rows-bit m cs i j h l = ap (bit j) (rows-row m cs i h) ∙ row-bit cs i j l
 
 pub rows-image : (m : ℕ) (cs : List ℕ) → AllBelow (2 ^ m) cs → (x : ℕ) → dots (rows m cs) x ≡ image cs x
 rows-image m cs h x =

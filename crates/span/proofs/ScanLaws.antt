@@ -1,6 +1,10 @@
 -- The scan, for any list: what is kept.
+--   SumBefore vs i           number i of vs is a sum of those kept before it
+--   sumBefore? vs i          whether it is
+--   IsKept vs i              number i of vs is kept: it is no sum of those kept before it
 --   map-at                   the value at a place of a list of values
 --   members-at, units-at     the member and the unit at a place of a list of positions
+--   over ps m                the mask m over the positions ps, as a mask over all positions
 --   units-length             there are as many units as positions
 --   kept-or-sum              each number is kept, or is a sum of those kept before it
 --   kept-those               the positions kept are those of the numbers that are no sum of those kept before
@@ -15,7 +19,7 @@
 --   scanned-sum              each scanned number is a sum of those kept at or before it
 --   span-earlier             the sums of those kept are the sums of all scanned so far
 --   IsKept-earlier           so a number is kept exactly when it is no sum of earlier ones
---   members-prefix, keptAt-prefix, IsKept-prefix, mask-prefix    the scan of a list's beginning is the beginning of its scan
+--   members-prefix, keptAt-prefix, IsKept-prefix    the scan of a list's beginning is the beginning of its scan
 use Prim.Native.Nat.{ℕ, zero, suc, _^_, _≤_, _<_}
 use mathlib.Core.Path.{_≡_, refl, sym, ap, ap₂, _∙_}
 use mathlib.Core.List.{List, [], _∷_, _++_, map, map-append, append-nil, append-assoc}
@@ -27,9 +31,10 @@ use lib.Seq.{getD-take}
 use Rattle.kinds.specs.Decided.{opposite}
 use Rattle.kinds.specs.Search.{withIf, those}
 use Rattle.kinds.proofs.SearchLaws.{those-new, those-old, those-at, those-ascending}
-use Rattle.bits.specs.Image.{AllBelow}
-use Rattle.span.specs.Sums.{SumOf, sumOf?, Independent}
-use Rattle.span.specs.Scan.{members, keptAt, SumBefore, sumBefore?, IsKept, units, maskBy, mask, others}
+use Rattle.bits.specs.Image.{image, AllBelow}
+use Rattle.span.specs.Sums.{SumOf, Independent}
+use Rattle.span.specs.Decisions.{sumOf?}
+use Rattle.span.specs.Scan.{members, keptAt, units, others}
 use Rattle.span.proofs.SumLaws.{sum-member, sum-left, sum-right, span-trans, independent-nil, independent-snoc}
 
 pub map-at : (f : ℕ → ℕ) (ps : List ℕ) (l : ℕ) → l < length ps → getD (map f ps) l 0 ≡ f (getD ps l 0)
@@ -43,10 +48,22 @@ members-at vs = map-at (λ p. getD vs p 0)
 pub units-at : (ps : List ℕ) (l : ℕ) → l < length ps → getD (units ps) l 0 ≡ 2 ^ getD ps l 0
 units-at = map-at (λ p. 2 ^ p)
 
+abbrev pub over : List ℕ → ℕ → ℕ
+over ps m = image (units ps) m
+
 pub units-length : (ps : List ℕ) → length (units ps) ≡ length ps
 units-length ps = length-map ps (λ p. 2 ^ p)
 
 -- ---- one step of the scan
+
+abbrev pub SumBefore : List ℕ → ℕ → Type 0
+SumBefore vs i = SumOf (members vs (keptAt vs i)) (getD vs i 0)
+
+abbrev pub sumBefore? : (vs : List ℕ) (i : ℕ) → Dec (SumBefore vs i)
+sumBefore? vs i = sumOf? (members vs (keptAt vs i)) (getD vs i 0)
+
+abbrev pub IsKept : List ℕ → ℕ → Type 0
+IsKept vs i = ¬ SumBefore vs i
 
 pub kept-or-sum : (vs : List ℕ) (i : ℕ) → IsKept vs i ⊎ SumBefore vs i
 kept-or-sum vs i = elim (sumBefore? vs i) [ yes s ↦ inr s | no k ↦ inl k ]
@@ -163,11 +180,3 @@ module _ (vs ws : List ℕ) where
   IsKept-prefix i h =
       let step = same-step h (keptAt-prefix i (omega arith)) in
       (λ k s. k (rw (step .0, step .1) s), λ k s. k (rw (step .0, step .1) at s))
-
-  pub mask-prefix : (i : ℕ) → i < length vs → mask (vs ++ ws) i ≡ mask vs i
-  unfolding mask
-  mask-prefix i h =
-      let same = keptAt-prefix i (omega arith) in
-      let step = same-step h same in
-      ap (λ (ps : List ℕ). maskBy (sumOf? (members (vs ++ ws) (keptAt (vs ++ ws) i)) (getD (vs ++ ws) i 0)) ps i) same
-      ∙ ap₂ (λ (cs : List ℕ) (v : ℕ). maskBy (sumOf? cs v) (keptAt vs i) i) (step .0) (step .1)

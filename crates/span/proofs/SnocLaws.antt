@@ -12,9 +12,9 @@ use native.Mathlib.Omega.{arith}
 use lib.ListN.{length, getD}
 use lib.Seq.{getD-append-seam}
 use Rattle.span.specs.Sums.{SumOf}
-use Rattle.span.specs.Scan.{members, keptAt, SumBefore, IsKept, kept}
+use Rattle.span.specs.Scan.{members, keptAt, kept}
 use Rattle.span.proofs.SumLaws.{length-snoc}
-use Rattle.span.proofs.ScanLaws.{members-prefix, keptAt-prefix, keptAt-below, keptAt-old, keptAt-new}
+use Rattle.span.proofs.ScanLaws.{members-prefix, keptAt-prefix, keptAt-below, keptAt-old, keptAt-new, SumBefore, IsKept}
 
 module _ (vs : List ℕ) (v : ℕ) where
   abbrev more : List ℕ

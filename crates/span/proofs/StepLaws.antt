@@ -15,10 +15,11 @@ use lib.ListN.{length, getD, set, take, drop, take-append-drop, length-take}
 use lib.Seq.{take-suc, length-take-le}
 use Rattle.kinds.specs.Answers.{Says}
 use Rattle.kinds.proofs.TruthLaws.{says-no, says-yes}
-use Rattle.span.specs.Scan.{IsKept, mask}
-use Rattle.span.specs.Held.{width, entry, Made, Echelon, Reduces}
-use Rattle.span.proofs.ScanLaws.{IsKept-prefix, mask-prefix}
-use Rattle.span.proofs.HeldLaws.{row-high, row-left, echelon-old, not-kept, mask-old, echelon-new, kept-rest, mask-new}
+use Rattle.span.specs.Scan.{mask}
+use Rattle.span.specs.Held.{width, MadeOf, Echelon, Reduces}
+use Rattle.span.proofs.ScanLaws.{IsKept-prefix, IsKept}
+use Rattle.span.proofs.MaskLaws.{mask-prefix}
+use Rattle.span.proofs.HeldLaws.{row-high, row-left, echelon-old, not-kept, mask-old, echelon-new, kept-rest, mask-new, entry}
 
 pub record Stepped (vs : List ℕ) (j : ℕ) (es : List ℕ) (b : Bool) (m : ℕ) : Type 0 where
   pub echelon : Echelon es (take (j + 1) vs)
@@ -58,7 +59,7 @@ module _ (vs : List ℕ) (j : ℕ) (inside : j < length vs) where
   module _ {es : List ℕ} {left : ℕ} (fits : v < 2 ^ width) (h : Echelon es so-far) (reduced : Reduces es (v * 2 ^ width) left) where
     pub step-old : left < 2 ^ width → Stepped vs j es false left
     step-old short =
-        let made : Made so-far (entry v left) = rw (xor-shifted v width left short) at (reduced .made so-far h) in
+        let made : MadeOf so-far (entry v left) = rw (xor-shifted v width left short) at (reduced .made so-far h) in
         stepped (echelon-old v short made fits h) (says-no (not-kept v short made)) (mask-old v short made)
 
     pub step-new : {own : ℕ} → left < 2 ^ (width + width) → 2 ^ width ≤ left → j < width → own ≡ 2 ^ j

@@ -17,10 +17,10 @@ use Rattle.bits.proofs.XorLaws.{xor-cancel-right}
 use Rattle.bits.proofs.ParityLaws.{dot-comm, dot-unit}
 use Rattle.bits.proofs.ImageLaws.{image-lt, linear-map}
 use Rattle.span.specs.Sums.{SumOf}
-use Rattle.span.specs.Scan.{SumBefore, IsKept, keptAt, rank}
+use Rattle.span.specs.Scan.{keptAt, rank}
 use Rattle.span.specs.Rows.{dots, takenOn}
 use Rattle.span.proofs.SumLaws.{sum-image, sum-member, sum-xor, sum-left, sum-right, sum-map, sum-append}
-use Rattle.span.proofs.ScanLaws.{map-at, kept-or-sum, keptAt-old, keptAt-new, keptAt-prefix, span-earlier}
+use Rattle.span.proofs.ScanLaws.{map-at, kept-or-sum, keptAt-old, keptAt-new, keptAt-prefix, span-earlier, SumBefore, IsKept}
 use Rattle.span.proofs.RankLaws.{rank-positions}
 use Rattle.span.proofs.RowLaws.{dots-xor, dots-none, dots-nil, dots-cons, dots-bit}
 use Rattle.span.proofs.DualLaws.{vanish-sum}

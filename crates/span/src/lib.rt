@@ -5,7 +5,7 @@ ghost use mathlib.Core.List.{[]};
 ghost use Rattle.kinds.specs.Answers.{Says};
 ghost use Rattle.span.specs.Sums.{Independent};
 ghost use Rattle.span.specs.Held.{Holds, Reduces};
-ghost use Rattle.span.specs.Tools.{room, Asks, Scans};
+ghost use Rattle.span.specs.Tools.{mostScanned, Asks, Scans};
 
 // What a scan has kept, in echelon form. An entry is a row in its upper 16 bits, and in its lower 16 the mask that says which
 // of the scanned numbers the row is the sum of. The row with z leading zeros stands at z; 0 is no entry.
@@ -71,7 +71,7 @@ pub fn scan_all(numbers: &[u16]) -> Scanned
 }
 
 fn at_most_16(length: usize) -> usize
-    ensures { λ r. ⌜ r ≡ min length room ⌝ }
+    ensures { λ r. ⌜ r ≡ min length mostScanned ⌝ }
 {
     if length < 16 {
         return length;

@@ -1,7 +1,6 @@
 -- The clock of a run: how many ticks of the incoming frame have come, and which tick is read next (01, 'One tick of the run'). T is 2^t, the ticks of a frame;
 -- came says whether words came, false on a blank tick. Which half or which cells a run writes and reads is not said here.
 --   PossibleClock T c       "a < 2^t, a <= r <= 2^t"
---   possibleClock? T c      whether c is such a one
 --   reads T c               whether a tick is read out in this call: r < 2^t
 --   readOn T c              the clock after the read: "r grows by 1"
 --   counted c came          the clock after the write: "a grows by 1" if words came
@@ -12,21 +11,13 @@
 use Prim.Native.Nat.{ℕ, _+_, _<_, _≤_}
 use mathlib.Core.Path.{_≡_}
 use mathlib.Core.Bool.{Bool, true, cond}
-use native.Mathlib.Decide.{decLt, decLe}
 use lib.Dec.{ltb, eqb}
-use Rattle.kinds.specs.Decided.{both, through}
 use Rattle.state.specs.declared.Clock.{Clock}
 
 pub record PossibleClock (T : ℕ) (c : Clock) : Type 0 where
   pub incoming : c .a < T
   pub behind : c .a ≤ c .r
   pub reader : c .r ≤ T
-
-unfoldable pub possibleClock? : (T : ℕ) (c : Clock) → Dec (PossibleClock T c)
-unfolding decLt decLe
-possibleClock? T c =
-    through (λ (i, (b, r)). record { incoming = i; behind = b; reader = r }, λ p. (p .incoming, (p .behind, p .reader)))
-    (both (decLt (c .a) T) (both (decLe (c .a) (c .r)) (decLe (c .r) T)))
 
 abbrev pub reads : ℕ → Clock → Bool
 reads T c = ltb (c .r) T

@@ -2,8 +2,9 @@
 ghost use mathlib.Core.Path.{_≡_};
 ghost use Rattle.kinds.specs.Answers.{Says};
 ghost use Rattle.kinds.specs.Decided.{ifHolds};
-ghost use Rattle.state.specs.Clocks.{PossibleClock, possibleClock?, readOn, Completes, nextClock};
-ghost use Rattle.state.specs.States.{Possible, possible?, next as nextState};
+ghost use Rattle.state.specs.Clocks.{PossibleClock, readOn, Completes, nextClock};
+ghost use Rattle.state.specs.Decisions.{possibleClock?, possible?};
+ghost use Rattle.state.specs.States.{Possible, next as nextState};
 
 // What every run counts: a, the ticks of the incoming frame so far, and r, the next tick to read, 2^t when idle.
 pub struct Clock {

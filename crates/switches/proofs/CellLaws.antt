@@ -39,9 +39,9 @@ use Rattle.span.proofs.Counting.{bijection-same}
 use Rattle.span.proofs.SumLaws.{independent-bijection, bijection-independent}
 use Rattle.sheet.specs.Sheet.{Side}
 use Rattle.sheet.specs.Layout.{InRange, WellFormed}
-use Rattle.switches.specs.Stages.{directions, controls, selected, afterStages}
+use Rattle.switches.specs.Stages.{afterStages}
 use Rattle.switches.specs.Cells.{addressAt, bankAt, cellAt, cellOf, M, N, cellColumns, portToBank, tickToBank}
-use Rattle.switches.proofs.StageLaws.{selected-linear, stages-sum, directions-below, selected-beyond}
+use Rattle.switches.proofs.StageLaws.{selected-linear, stages-sum, directions-below, selected-beyond, directions, controls, selected}
 
 module _ (S : Side) where
   abbrev wired : ℕ → ℕ

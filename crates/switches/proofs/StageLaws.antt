@@ -1,4 +1,6 @@
 -- Laws of stages.
+--   directions ss, controls ss    the directions of the stages ss, and their controls
+--   selected ss c       the sum of the directions whose controls AND c have an odd number of ones
 --   after-append        stages after stages
 --   selected-linear     what stages select is linear in the tick
 --   stages-sum          what stages do to a bank: they xor in the selected directions
@@ -11,7 +13,7 @@
 --   idle-stages         zeros after the numbers of stages are stages that change nothing
 use Prim.Native.Nat.{ℕ, zero, suc, _+_, _*_, _/_, _%_, _^_, _<_, _≤_}
 use mathlib.Core.Path.{_≡_, refl, sym, ap, ap₂, _∙_}
-use mathlib.Core.List.{List, [], _∷_, _++_}
+use mathlib.Core.List.{List, [], _∷_, _++_, map}
 use native.Mathlib.Nat.{div-eq-of-lt}
 use native.Mathlib.Numerals.{add-one}
 use native.Mathlib.Omega.{arith}
@@ -30,7 +32,17 @@ use Rattle.span.proofs.SumLaws.{sum-image}
 use Rattle.span.proofs.RankLaws.{rank-le-length, columns-sum}
 use Rattle.sheet.specs.Sheet.{Stage, stageAt, stagesIn}
 use Rattle.sheet.specs.Layout.{StageInRange, EachStage}
-use Rattle.switches.specs.Stages.{switched, afterStages, directions, controls, selected}
+use Rattle.sheet.proofs.StageLaws.{stages-none, stages-snoc}
+use Rattle.switches.specs.Stages.{switched, afterStages}
+
+abbrev pub directions : List Stage → List ℕ
+directions ss = map (λ s. s .direction) ss
+
+abbrev pub controls : List Stage → List ℕ
+controls ss = map (λ s. s .control) ss
+
+abbrev pub selected : List Stage → ℕ → ℕ
+selected ss c = image (directions ss) (dots (controls ss) c)
 
 pub after-append : (ss ts : List Stage) (c b : ℕ) → afterStages (ss ++ ts) c b ≡ afterStages ts c (afterStages ss c b)
 unfolding afterStages
@@ -80,12 +92,13 @@ selected-beyond b t m (s ∷ ss) each h =
     selected-cons s ss (2 ^ m) ∙ rw even (selected-beyond b t m ss (each .1) h)
 
 pub after-none : (l : List ℕ) (c b : ℕ) → afterStages (stagesIn 0 l) c b ≡ b
-unfolding afterStages stagesIn
-after-none l c b = refl
+unfolding afterStages
+after-none l c b = ap (λ (ss : List Stage). afterStages ss c b) (stages-none l)
 
 pub after-more : (m : ℕ) (l : List ℕ) (c b : ℕ) → afterStages (stagesIn (m + 1) l) c b ≡ switched (stageAt l m) c (afterStages (stagesIn m l) c b)
-unfolding afterStages stagesIn
-after-more m l c b = rw (add-one m) (after-append (stagesIn m l) (stageAt l m ∷ []) c b)
+unfolding afterStages
+after-more m l c b =
+    rw (add-one m) (ap (λ (ss : List Stage). afterStages ss c b) (stages-snoc m l) ∙ after-append (stagesIn m l) (stageAt l m ∷ []) c b)
 
 pub after-lt : (w : ℕ) (l : List ℕ) → ((j : ℕ) → getD l j 0 < 2 ^ w) → (m c b : ℕ) → b < 2 ^ w → afterStages (stagesIn m l) c b < 2 ^ w
 after-lt w l narrow zero c b h = rw (after-none l c b) h

@@ -10,31 +10,32 @@ use mathlib.Core.List.{List, map, map-map}
 use native.Mathlib.Decide.{decLt}
 use native.Mathlib.Nat.{pos-of-ne-zero, zero-div}
 use native.Mathlib.Omega.{arith}
-use lib.ListN.{length, getD, length-map, List·getD-map}
+use lib.ListN.{length, getD, length-map}
 use lib.Pow.{pow-pos, pow-lt, le-ones, split}
 use Rattle.kinds.specs.Edition.{Edition}
 use Rattle.kinds.specs.Frame.{tickBits, wordAt, addressOf, bankOf}
 use Rattle.kinds.proofs.FrameLaws.{tick-lt, port-lt, tick-unit}
 use Rattle.bits.specs.Image.{image, columns, AllBelow, Linear}
-use Rattle.bits.specs.Parity.{bit, dot}
-use Rattle.bits.proofs.ImageLaws.{image-xor, image-unit, linear-zero, linear-agree, columns-length, columns-at, columns-below}
+use Rattle.bits.specs.Parity.{bit}
+use Rattle.bits.proofs.ImageLaws.{image-xor, image-unit, linear-agree, columns-length, columns-at, columns-below}
 use Rattle.bits.proofs.ParityLaws.{dot-unit, bit-same}
 use Rattle.span.specs.Maps.{Into}
 use Rattle.span.specs.Rows.{dots, row}
 use Rattle.span.specs.Scan.{members, keptAt, kept, rank, units, mask, masks}
-use Rattle.span.proofs.RowLaws.{dots-lt, dots-xor, dots-bit}
+use Rattle.span.proofs.RowLaws.{dots-lt, dots-bit, row-lt, row-bit}
 use Rattle.span.proofs.SumLaws.{sum-member}
-use Rattle.span.proofs.ScanLaws.{members-at, units-at, keptAt-below, kept-independent}
+use Rattle.span.proofs.ScanLaws.{map-at, members-at, units-at, keptAt-below, kept-independent}
 use Rattle.span.proofs.MaskLaws.{mask-unique, masks-length, masks-at}
 use Rattle.span.proofs.RankLaws.{rank-le-length, rank-width, rank-positions}
 use Rattle.span.proofs.PositionLaws.{sum-by-bits}
 use Rattle.sheet.specs.Sheet.{Side}
-use Rattle.sheet.specs.Layout.{StageInRange, EachStage, InRange, Layable}
+use Rattle.sheet.specs.Layout.{StageInRange, EachStage, InRange}
+use Rattle.sheet.proofs.LayLaws.{Layable}
 use Rattle.sheet.proofs.StageLaws.{each-of}
-use Rattle.switches.specs.Stages.{afterStages, directions, controls, selected}
+use Rattle.switches.specs.Stages.{afterStages}
 use Rattle.switches.specs.Cells.{portToBank, tickToBank, cellOf}
 use Rattle.switches.specs.Written.{keptStage, keptStages, sideFor}
-use Rattle.switches.proofs.StageLaws.{stages-sum, stages-made}
+use Rattle.switches.proofs.StageLaws.{stages-sum, stages-made, directions, controls, selected}
 use Rattle.switches.proofs.CellLaws.{cell-linear, port-column, tick-column}
 
 module _ (F : List ℕ) where
@@ -55,20 +56,17 @@ module _ (F : List ℕ) where
   unfolding kept
   kept-directions = ap directions stages-are ∙ map-map (λ s. s .direction) (keptStage F) ps
 
-  kept-controls : controls (keptStages F) ≡ map (dots (masks F)) (units ps)
-  kept-controls = ap controls stages-are ∙ map-map (λ s. s .control) (keptStage F) ps ∙ sym (map-map (dots (masks F)) (λ p. 2 ^ p) ps)
+  kept-controls : controls (keptStages F) ≡ map (row (masks F)) ps
+  kept-controls = ap controls stages-are ∙ map-map (λ s. s .control) (keptStage F) ps
 
   control-count : length (controls (keptStages F)) ≡ length ps
   control-count = length-map (keptStages F) (λ s. s .control) ∙ stage-count
 
   control-at : (s : ℕ) → s < length ps → getD (controls (keptStages F)) s 0 ≡ row (masks F) (getD ps s 0)
-  control-at s h =
-      let none = linear-zero (dots (masks F)) (dots-xor (masks F)) in
-      ap₂ (λ (l : List ℕ) (d : ℕ). getD l s d) kept-controls (sym none) ∙ List·getD-map (dots (masks F)) (units ps) s 0 ∙ ap (dots (masks F)) (units-at ps s h)
+  control-at s h = ap (λ (l : List ℕ). getD l s 0) kept-controls ∙ map-at (row (masks F)) ps s h
 
   control-bit : (p j : ℕ) → j < length F → bit j (row (masks F) p) ≡ bit p (mask F j)
-  control-bit p j h =
-      dots-bit (masks F) (2 ^ p) j (rw (masks-length F) h) ∙ ap (λ (m : ℕ). dot m (2 ^ p)) (masks-at F j h) ∙ dot-unit p (mask F j)
+  control-bit p j h = row-bit (masks F) p j (rw (masks-length F) h) ∙ ap (bit p) (masks-at F j h)
 
   kept-column : (j : ℕ) → j < length F → image (kept F) (dots (controls (keptStages F)) (2 ^ j)) ≡ getD F j 0
   kept-column j h =
@@ -103,7 +101,7 @@ module _ (F : List ℕ) where
   kept-range k below =
       rw stages-are (each-of (StageInRange (2 ^ k) (2 ^ length F)) (keptStage F) ps (λ s h. record {
         direction = record { least = direction-least s h; most = le-ones k (below (getD ps s 0) (inside s h)) };
-        control = record { least = control-least s h; most = le-ones (length F) (rw (masks-length F) at (dots-lt (masks F) (2 ^ getD ps s 0))) };
+        control = record { least = control-least s h; most = le-ones (length F) (rw (masks-length F) at (row-lt (masks F) (getD ps s 0))) };
       }))
 
 module _ (n k : ℕ) (f : ℕ → ℕ) (within : k ≤ n) (linear : Linear f) (into : Into f (2 ^ n) (2 ^ n)) where

@@ -18,7 +18,7 @@ abbrev pub keptStage : List ℕ → ℕ → Stage
 keptStage F p = record { direction = getD F p 0; control = row (masks F) p }
 
 unfoldable pub keptStages : List ℕ → List Stage
-unfolding keptAt masks
+unfolding keptAt masks row
 keptStages F = map (keptStage F) (keptAt F (length F))
 
 abbrev pub sideFor : ℕ → ℕ → (ℕ → ℕ) → Side

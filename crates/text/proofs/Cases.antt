@@ -8,7 +8,7 @@ use mathlib.Core.List.{List, [], _∷_, map}
 use mathlib.Core.Logic.{_⊎_, inl, inr}
 use mathlib.Core.Option.{Option, none, some}
 use Rattle.text.specs.Decimal.{codes, decimalIn}
-use Rattle.text.specs.Numbers.{row, Row}
+use Rattle.text.specs.Numbers.{numbersText, Row}
 use Rattle.text.proofs.ReadLaws.{Outcome, outcome}
 use Rattle.text.proofs.RowLaws.{row?}
 
@@ -33,8 +33,8 @@ taken : map read ("3 1 4 2 1\n" ∷ "65535 0 10 9\n" ∷ "0\n" ∷ "" ∷ [])
 unfolding codes row?
 taken = refl
 
-printed : map row ((3 ∷ 1 ∷ 4 ∷ 2 ∷ 1 ∷ []) ∷ (65535 ∷ 0 ∷ 10 ∷ 9 ∷ []) ∷ []) ≡ map codes ("3 1 4 2 1\n" ∷ "65535 0 10 9\n" ∷ [])
-unfolding codes decimalIn row
+printed : map numbersText ((3 ∷ 1 ∷ 4 ∷ 2 ∷ 1 ∷ []) ∷ (65535 ∷ 0 ∷ 10 ∷ 9 ∷ []) ∷ []) ≡ map codes ("3 1 4 2 1\n" ∷ "65535 0 10 9\n" ∷ [])
+unfolding codes decimalIn numbersText
 printed = refl
 
 abbrev bad : List String

@@ -15,29 +15,29 @@ use mathlib.Core.Logic.{_↔_}
 use native.Mathlib.Omega.{arith}
 use lib.ListN.{length, length-append}
 use Rattle.text.specs.Decimal.{decimal}
-use Rattle.text.specs.Numbers.{ending, row, Row, Begins}
+use Rattle.text.specs.Numbers.{ending, numbersText, Row, Begins}
 use Rattle.text.proofs.ReadLaws.{begins-unique, begins?}
 
 pub begins-shorter : {b rest : List ℕ} {v : ℕ} → Begins b v rest → length rest < length b
 begins-shorter {rest = rest} {v} g = omega (arith, ap length (g .bytes), length-append (decimal v) (ending rest ∷ rest))
 
-pub row-next : {b xs : List ℕ} {x : ℕ} → Row b (x ∷ xs) → Begins b x (row xs) × Row (row xs) xs
-unfolding row
+pub row-next : {b xs : List ℕ} {x : ℕ} → Row b (x ∷ xs) → Begins b x (numbersText xs) × Row (numbersText xs) xs
+unfolding numbersText
 row-next r = (record { number = r .numbers .0; bytes = r .bytes }, record { bytes = refl; numbers = r .numbers .1 })
 
 pub row-step : {b rest ns : List ℕ} {v : ℕ} → Begins b v rest → Row rest ns → Row b (v ∷ ns)
-unfolding row
+unfolding numbersText
 row-step {v = v} g r = record { bytes = g .bytes ∙ ap (λ (rest : List ℕ). decimal v ++ (ending rest ∷ rest)) (r .bytes); numbers = (g .number, r .numbers) }
 
 pub row-none : Row [] []
-unfolding row
+unfolding numbersText
 row-none = record { bytes = refl; numbers = tt }
 
-row-shorter : (x : ℕ) (xs : List ℕ) → length (row xs) < length (row (x ∷ xs))
-unfolding row
-row-shorter x xs = omega (arith, length-append (decimal x) (ending (row xs) ∷ row xs))
+row-shorter : (x : ℕ) (xs : List ℕ) → length (numbersText xs) < length (numbersText (x ∷ xs))
+unfolding numbersText
+row-shorter x xs = omega (arith, length-append (decimal x) (ending (numbersText xs) ∷ numbersText xs))
 
-pub row-nil : (ns : List ℕ) → row ns ≡ [] ↔ ns ≡ []
+pub row-nil : (ns : List ℕ) → numbersText ns ≡ [] ↔ ns ≡ []
 row-nil [] = (λ e. refl, λ e. sym (row-none .bytes))
 row-nil (x ∷ xs) = (λ e. absurd (omega (arith, ap length e, row-shorter x xs)), λ e. absurd (omega (arith, ap length e)))
 
@@ -61,7 +61,7 @@ further g (no n) = no (λ (ns, r). let (xs, rest, _) = row-rest g r in n (xs, re
 
 pub row-begins : {c : ℕ} {b ns : List ℕ} → Row (c ∷ b) ns → (v : ℕ) × (rest : List ℕ) × Begins (c ∷ b) v rest
 row-begins {ns = []} r = absurd (omega (arith, ap length (r .bytes ∙ sym (row-none .bytes))))
-row-begins {ns = x ∷ xs} r = (x, row xs, row-next r .0)
+row-begins {ns = x ∷ xs} r = (x, numbersText xs, row-next r .0)
 
 rowIn : (m : ℕ) (b : List ℕ) → length b < m → Dec ((ns : List ℕ) × Row b ns)
 unfolding begins? further

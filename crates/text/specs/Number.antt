@@ -7,7 +7,7 @@
 --   Stops b i          b doesn't start with the digits of a number, and i is the place of the first byte from which no number could go on; the length, if b merely stops short
 --   valueOf r          the value that r, an answer of `number`, gives; none where r names a bad place
 --   placeOf r          the place that r gives: the one after the digits, or the bad one
---   Found b at o e     from place at of b on stands the number o, and e is the place after its digits; where o is none, no number stands there, and e is the bad place
+--   StandsAt b at o e     from place at of b on stands the number o, and e is the place after its digits; where o is none, no number stands there, and e is the bad place
 --   NumberIs b at r    r is what is read at place at of b
 use Prim.Native.Nat.{ℕ, _+_, _<_, _≤_}
 use mathlib.Core.Path.{_≡_}
@@ -50,9 +50,9 @@ abbrev pub placeOf : Numeral → ℕ
 placeOf (Value v next) = next
 placeOf (Bad e) = e
 
-abbrev pub Found : List ℕ → ℕ → Option ℕ → ℕ → Type 0
-Found b at (some v) e = (at < e) × (e ≤ length b) × Digits (drop at b) v (drop e b)
-Found b at none e = (i : ℕ) × (e ≡ at + i) × Stops (drop at b) i
+abbrev pub StandsAt : List ℕ → ℕ → Option ℕ → ℕ → Type 0
+StandsAt b at (some v) e = (at < e) × (e ≤ length b) × Digits (drop at b) v (drop e b)
+StandsAt b at none e = (i : ℕ) × (e ≡ at + i) × Stops (drop at b) i
 
 abbrev pub NumberIs : List ℕ → ℕ → Numeral → Type 0
-NumberIs b at r = Found b at (valueOf r) (placeOf r)
+NumberIs b at r = StandsAt b at (valueOf r) (placeOf r)

@@ -1,4 +1,5 @@
 -- The calls of a trial.
+--   lent st ts ws ms out      what a call is lent: the words ts come, and ws and ms are the words and the marks of the memory
 --   part-comes      tick c of the words is call c, and there are 2^t such
 --   call-goes       a call that is made where the run stands goes to where it stands next, and what the run hands out is then in the out buffer
 --   tick-leaves     in blank call c tick c of the words in lamp order leaves
@@ -16,17 +17,22 @@ use Rattle.kinds.proofs.FrameLaws.{tick-lt, port-lt, word-lt, in-order-length, 
 use Rattle.memory.specs.Memory.{Memory}
 use Rattle.kinds.specs.Answers.{onto}
 use Rattle.state.specs.declared.State.{State}
-use Rattle.call.specs.Tool.{stateAfter, ComesOf}
-use Rattle.call.specs.declared.Ticked.{Ticked}
-use Rattle.run.specs.Tool.{Ticks}
-use Rattle.promise.specs.Series.{callAt, Series, wordIn, frame, tickIn, standing, outcomeOn, ticked, freshStand}
+use Rattle.call.specs.Tool.{Lent, Left, stateAfter, ComesOf}
+use Rattle.call.specs.declared.RunAnswer.{RunAnswer}
+use Rattle.run.specs.Tool.{Runs}
+use Rattle.promise.specs.Series.{callAt, Series, wordIn, frame, wordsOfTick}
+use Rattle.promise.specs.Run.{standing}
+use Rattle.promise.specs.Answered.{outcomeAt, calledOn, toolCall, freshStand}
 use Rattle.promise.proofs.OneFrame.{one-frame-length, came, came-at, completed, word-in, one-frame-series}
-use Rattle.promise.proofs.OneRun.{is-fresh}
+use Rattle.promise.proofs.FreshLaws.{is-fresh}
 use Rattle.promise.proofs.ToolLaws.{tool-call}
-use Rattle.promise.proofs.RightLaws.{right-tick}
+use Rattle.promise.proofs.SheetLaws.{right-tick}
 use Rattle.trial.specs.Trial.{trialCalls, wordAtPlace, lampOrder}
-use Rattle.trial.specs.Inside.{leavesIn, handedOut, Here, Runnable}
+use Rattle.trial.specs.Inside.{leavesIn, frameHanded, Here, Runnable}
 use Rattle.trial.proofs.LampLaws.{lamp-moved}
+
+abbrev pub lent : State → List ℕ → List ℕ → List ℕ → List ℕ → Lent
+lent st ts ws ms out = record { state = st; came = ts; memory = record { words = ws; marks = ms }; out = out }
 
 module _ {n k : ℕ} {s : List ℕ} (run : Runnable n k s) where
   abbrev T : ℕ
@@ -65,16 +71,16 @@ module _ {n k : ℕ} {s : List ℕ} (run : Runnable n k s) where
         let l : p < 2 ^ k = rw part-long at b in
         part-at p l ∙ sym (came-at n k (λ i. i) c p h l))
 
-  call-comes : {j : ℕ} → j < 2 * T → {st : State} {ws ms out : List ℕ} {a : Ticked} {m : Memory} {left : List ℕ} → Here n k s j st ws ms → length out ≡ 2 ^ k
-      → Ticks edition1 n k s st (callAt S j) (record { words = ws; marks = ms }) out a m left → ComesOf (outcomeOn edition1 n k s (freshStand n k) S j) st out a m left
+  call-comes : {j : ℕ} → j < 2 * T → {st : State} {ws ms out : List ℕ} {l : Left} → Here n k s j st ws ms → length out ≡ 2 ^ k → Runs edition1 n k s (lent st (callAt S j) ws ms out) l
+      → ComesOf (outcomeAt (calledOn edition1 n k s S) (freshStand n k) j) (lent st (callAt S j) ws ms out) l
   call-comes {j} h {out = out} here room goes =
       let reach : j < length S = rw whole h in
       let p = run .planned in
       let comes = tool-call edition1 n k s S (λ i. out) (freshStand n k) (run .sized) (p .places) (p .formed) (λ i l. room) (is-fresh n k) series j reach in
-      rw (ap (ticked edition1 n k s S (λ i. out) j) (here .stands) ∙ comes) at goes
+      rw (ap (toolCall edition1 n k s S (λ i. out) j) (here .stands) ∙ comes) at goes
 
-  pub call-goes : {j : ℕ} → j < 2 * T → {st st' : State} {ts ws ms ws' ms' out left : List ℕ} {a : Ticked} → Here n k s j st ws ms → length out ≡ 2 ^ k → ts ≡ callAt S j
-      → Ticks edition1 n k s st ts (record { words = ws; marks = ms }) out a (record { words = ws'; marks = ms' }) left → st' ≡ stateAfter st a
+  pub call-goes : {j : ℕ} → j < 2 * T → {st st' : State} {ts ws ms ws' ms' out left : List ℕ} {a : RunAnswer} → Here n k s j st ws ms → length out ≡ 2 ^ k → ts ≡ callAt S j
+      → Runs edition1 n k s (lent st ts ws ms out) (record { answer = a; memory = record { words = ws'; marks = ms' }; out = left }) → st' ≡ stateAfter st a
       → Here n k s (suc j) st' ws' ms' × (left ≡ onto (leavesIn n k s j) out)
   unfolding standing
   call-goes h here room brings goes after =
@@ -89,16 +95,16 @@ module _ {n k : ℕ} {s : List ℕ} (run : Runnable n k s) where
   abbrev lamps : List ℕ
   lamps = lampOrder n (run .columns)
 
-  pub tick-leaves : {c : ℕ} → c < T → leavesIn n k s (T + c) ≡ tickIn k lamps c
+  pub tick-leaves : {c : ℕ} → c < T → leavesIn n k s (T + c) ≡ wordsOfTick k lamps c
   tick-leaves {c} h =
       let then : T + c ≡ T - 1 + 1 + c = omega (arith, pow-pos (tickBits n k)) in
       ap (leavesIn n k s) then
       ∙ right-tick within (run .order) (run .planned .right) (freshStand n k) S (is-fresh n k) series (completed n k (λ i. i) within) h
       (omega (arith, whole, pow-pos (tickBits n k))) lamps (rw words-in (lamp-moved (run .order)))
 
-  pub handed-lamp : handedOut n k s ≡ lamps
+  pub handed-lamp : frameHanded n k s ≡ lamps
   handed-lamp =
-      in-order-is (2 ^ n) (wordAtPlace n (run .columns)) 0 (handedOut n k s) (in-order-length (2 ^ n) _) (λ q h.
+      in-order-is (2 ^ n) (wordAtPlace n (run .columns)) 0 (frameHanded n k s) (in-order-length (2 ^ n) _) (λ q h.
       in-order-at (2 ^ n) _ 0 q h
       ∙ ap (λ (ws : List ℕ). getD ws (portOf k q) 0) (tick-leaves (tick-lt within h))
       ∙ in-order-at (2 ^ k) _ 0 (portOf k q) (port-lt k q)

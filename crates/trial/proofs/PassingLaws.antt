@@ -20,12 +20,12 @@ use Rattle.kinds.proofs.FrameLaws.{frame-whole}
 use Rattle.kinds.specs.Answers.{onto}
 use Rattle.state.specs.declared.State.{State}
 use Rattle.call.specs.Tool.{stateAfter}
-use Rattle.call.specs.declared.Ticked.{Ticked}
-use Rattle.run.specs.Tool.{Ticks}
+use Rattle.call.specs.declared.RunAnswer.{RunAnswer}
+use Rattle.run.specs.Tool.{Runs}
 use Rattle.promise.specs.Series.{callAt}
 use Rattle.trial.specs.Trial.{trialCalls}
 use Rattle.trial.specs.Inside.{leavesIn, Here, Runnable}
-use Rattle.trial.proofs.CallLaws.{call-goes}
+use Rattle.trial.proofs.CallLaws.{lent, call-goes}
 
 pub record Passing (n k : ℕ) (s f : List ℕ) (from : ℕ) (st : State) (ws ms : List ℕ) (ports at : ℕ) : Type 0 where
   pub run : Runnable n k s
@@ -59,9 +59,9 @@ module _ {n k : ℕ} {s f : List ℕ} {from : ℕ} {st : State} {ws ms : List �
       pub passing-fits : at + ports ≤ length f
       passing-fits = omega (arith, all, p .passed, p .tick, mul-le-mul-right (2 ^ k) passing-left, suc-mul (p .calls) (2 ^ k))
 
-      pub passing-more : from ≤ ticks n k → {st' : State} {ts ws' ms' f' out left : List ℕ} {a : Ticked} → length f' ≡ length f → length out ≡ 2 ^ k
+      pub passing-more : from ≤ ticks n k → {st' : State} {ts ws' ms' f' out left : List ℕ} {a : RunAnswer} → length f' ≡ length f → length out ≡ 2 ^ k
           → ts ≡ callAt (trialCalls n k) (from + p .calls)
-          → Ticks edition1 n k s st ts (record { words = ws; marks = ms }) out a (record { words = ws'; marks = ms' }) left → st' ≡ stateAfter st a
+          → Runs edition1 n k s (lent st ts ws ms out) (record { answer = a; memory = record { words = ws'; marks = ms' }; out = left }) → st' ≡ stateAfter st a
           → Passing n k s f' from st' ws' ms' ports (at + ports) × (left ≡ onto (leavesIn n k s (from + p .calls)) out)
       passing-more early same room brings goes after =
           let (here, left) = call-goes (p .run) (omega (arith, passing-left)) (p .here) room brings goes after in (

@@ -1,7 +1,7 @@
 -- What the functions inside the crate promise one another.
 --   standsAt n k s j            where the run of the sheet s stands before call j of the trial
 --   leavesIn n k s j            what it hands out in call j
---   handedOut n k s             all that it hands out in the blank ticks, place by place
+--   frameHanded n k s             all that it hands out in the blank ticks, place by place
 --   Here n k s j st ws ms       the run stands there in the state st, with the words ws and the marks ms
 --   Runnable n k s              sizes are sound, and s is planned for an order
 --   Numbered n k s f            and f is words 0 to 2^n - 1
@@ -15,18 +15,19 @@ use Rattle.kinds.specs.Edition.{edition1, Sized}
 use Rattle.kinds.specs.Frame.{ticks, tickOf, portOf, inOrder}
 use Rattle.order.specs.Order.{Order}
 use Rattle.state.specs.declared.State.{State}
-use Rattle.promise.specs.Series.{Stand, freshStand, standingOn, outcomeOn}
+use Rattle.promise.specs.Run.{Stand}
+use Rattle.promise.specs.Answered.{freshStand, stands, outcomeAt, calledOn}
 use Rattle.plan.specs.Tool.{IsPlanned}
 use Rattle.trial.specs.Trial.{trialCalls}
 
 abbrev pub standsAt : ℕ → ℕ → List ℕ → ℕ → Stand
-standsAt n k s = standingOn edition1 n k s (freshStand n k) (trialCalls n k)
+standsAt n k s = stands (calledOn edition1 n k s (trialCalls n k)) (freshStand n k)
 
 abbrev pub leavesIn : ℕ → ℕ → List ℕ → ℕ → List ℕ
-leavesIn n k s j = outcomeOn edition1 n k s (freshStand n k) (trialCalls n k) j .leaving
+leavesIn n k s j = outcomeAt (calledOn edition1 n k s (trialCalls n k)) (freshStand n k) j .leaving
 
-abbrev pub handedOut : ℕ → ℕ → List ℕ → List ℕ
-handedOut n k s = inOrder (2 ^ n) (λ q. getD (leavesIn n k s (ticks n k + tickOf k q)) (portOf k q) 0)
+abbrev pub frameHanded : ℕ → ℕ → List ℕ → List ℕ
+frameHanded n k s = inOrder (2 ^ n) (λ q. getD (leavesIn n k s (ticks n k + tickOf k q)) (portOf k q) 0)
 
 pub record Here (n k : ℕ) (s : List ℕ) (j : ℕ) (st : State) (ws ms : List ℕ) : Type 0 where
   pub stands : _≡_ {A = Stand} (record { state = st; memory = record { words = ws; marks = ms } }) (standsAt n k s j)

@@ -6,11 +6,11 @@ ghost use lib.ListN.{length};
 ghost use Rattle.kinds.specs.Answers.{Says};
 ghost use Rattle.kinds.specs.Edition.{edition1, sheetPlaces};
 ghost use Rattle.kinds.specs.Frame.{ticks, inOrder};
-ghost use Rattle.kinds.specs.Reasons.{RightLengths};
+ghost use Rattle.kinds.specs.Lengths.{exactly, RightLengths};
 ghost use Rattle.call.specs.Tool.{stateAfter};
 ghost use Rattle.trial.specs.Trial.{Tries};
-ghost use Rattle.trial.specs.Inside.{handedOut, Here, Numbered, Entering, Leaving};
-use call::Ticked;
+ghost use Rattle.trial.specs.Inside.{frameHanded, Here, Numbered, Entering, Leaving};
+use call::RunAnswer;
 use kinds::Answer;
 use state::State;
 
@@ -36,7 +36,7 @@ pub fn trial(n: u32, k: u32, columns: &[u16], sheet: &mut [u16], frame: &mut [u3
 }
 
 fn lent_right(n: u32, sheet: usize, frame: usize) -> bool
-    ensures { λ r. ⌜ Says r (RightLengths ((sheet, sheetPlaces edition1) ∷ (frame, 2 ^ n) ∷ [])) ⌝ }
+    ensures { λ r. ⌜ Says r (RightLengths ((sheet, exactly (sheetPlaces edition1)) ∷ (frame, exactly (2 ^ n)) ∷ [])) ⌝ }
 {
     if sheet != sheet::SHEET {
         return false;
@@ -58,7 +58,7 @@ fn number_words(frame: &mut [u32])
 // The frame goes in, tick by tick, and comes back in order.
 fn run_frame(n: u32, k: u32, sheet: &[u16], frame: &mut [u32])
     requires { ⌜ Numbered n k (now sheet) (now frame) ⌝ }
-    ensures { λ r. ⌜ now (frame .exit) ≡ handedOut n k (now (sheet .entry)) ⌝ }
+    ensures { λ r. ⌜ now (frame .exit) ≡ frameHanded n k (now (sheet .entry)) ⌝ }
 {
     let mut words = [0; MEMORY];
     let mut marks = [0; MEMORY];
@@ -106,19 +106,19 @@ fn take_in(
     let mut at = 0;
     while at < frame.len() {
         let end = at + ports;
-        let ticked = run::tick(n, k, sheet, state, &frame[at..end], out, words, marks);
-        state = after(state, ticked);
+        let answer = run::tick(n, k, sheet, state, &frame[at..end], out, words, marks);
+        state = after(state, answer);
         at = end;
     }
     state
 }
 
-fn after(state: State, ticked: Ticked) -> State
-    ensures { λ r. ⌜ r ≡ stateAfter state ticked ⌝ }
+fn after(state: State, answer: RunAnswer) -> State
+    ensures { λ r. ⌜ r ≡ stateAfter state answer ⌝ }
 {
-    match ticked {
-        Ticked::Done(next, _) => next,
-        Ticked::Refused(_) => state,
+    match answer {
+        RunAnswer::Done(next, _) => next,
+        RunAnswer::Refused(_) => state,
     }
 }
 
@@ -133,7 +133,7 @@ fn hand_out(
     marks: &mut [u8],
 )
     requires { ⌜ Leaving n k (now sheet) state (now frame) (now words) (now marks) ⌝ }
-    ensures { λ r. ⌜ now (frame .exit) ≡ handedOut n k (now (sheet .entry)) ⌝ }
+    ensures { λ r. ⌜ now (frame .exit) ≡ frameHanded n k (now (sheet .entry)) ⌝ }
 {
     let ports = bits::two_to(k) as usize;
     let none = [0; 1];
@@ -141,7 +141,7 @@ fn hand_out(
     let mut place = 0;
     while place < frame.len() {
         let end = place + ports;
-        let ticked = run::tick(
+        let answer = run::tick(
             n,
             k,
             sheet,
@@ -151,7 +151,7 @@ fn hand_out(
             words,
             marks,
         );
-        state = after(state, ticked);
+        state = after(state, answer);
         place = end;
     }
 }

@@ -10,13 +10,13 @@ wrong-length-requires : tie.Need-wrong-length-requires
 wrong-length-requires c κs = search needs
 
 returns : tie.Need-returns
-returns c = record { tool = besides-wrong (λ right. c .before .if1 .taken (right .0)) (c .wrong-length .ensures) (refl, refl, refl, refl) }
+returns c = record { tool = besides-wrong (λ right. c .before .if1 .taken (right .0)) (c .wrong-length .ensures) refl }
 
 wrong-length-requires-2 : tie.Need-wrong-length-requires-2
 wrong-length-requires-2 c κs = search needs
 
 returns-2 : tie.Need-returns-2
-returns-2 c = record { tool = besides-wrong (λ right. c .before .if2 .taken (right .1 .0)) (c .wrong-length2 .ensures) (refl, refl, refl, refl) }
+returns-2 c = record { tool = besides-wrong (λ right. c .before .if2 .taken (right .1 .0)) (c .wrong-length2 .ensures) refl }
 
 slice-read-t15 : tie.Need-slice-read-t15
 slice-read-t15 c = search needs
@@ -50,12 +50,12 @@ same-length-5 c = search needs
 
 returns-3 : tie.Need-returns-3
 returns-3 c =
-    let ticked = c .before .before .before .before .before .before .before .before .before .before .before .before .before in
-    let tested = ticked .before .before .before .before .before .before .before in
+    let called = c .before .before .before .before .before .before .before .before .before .before .before .before .before in
+    let tested = called .before .before .before .before .before .before .before in
     record {
       tool =
           besides-right (omega (arith, tested .before .if1 .left), (omega (arith, tested .if2 .left), tt))
-          (ticked .tick .result, ticked .tick .ensures, c .before .before .before .before .report .ensures);
+          (called .tick .result, called .tick .ensures, c .before .before .before .before .report .ensures);
     }
 
 pub board-tick-spec : {M : Type 1} → statement M

@@ -15,8 +15,8 @@ told : (l : List ℕ) (handed : Bool) → 1 ≤ length l → set l 0 (boolByte h
 told l true h = first-set l h
 told l false h = first-set l h
 
-enum-known-ticked : tie.Need-enum-known-ticked
-enum-known-ticked c = search needs
+enum-known-answer : tie.Need-enum-known-answer
+enum-known-answer c = search needs
 
 put-three-requires : tie.Need-put-three-requires
 put-three-requires c κs = search needs
@@ -27,8 +27,8 @@ cast-said c = search needs
 slice-write-said : tie.Need-slice-write-said
 slice-write-said c = search needs
 
-enum-known-ticked-2 : tie.Need-enum-known-ticked-2
-enum-known-ticked-2 c = search needs
+enum-known-answer-2 : tie.Need-enum-known-answer-2
+enum-known-answer-2 c = search needs
 
 name-ports-requires : tie.Need-name-ports-requires
 name-ports-requires c κs = search needs
@@ -46,10 +46,10 @@ returns : tie.Need-returns
 returns c =
     let arm = c .before .before .before .before .before in
     let start = arm .before .before .before .before in
-    rw (arm .ticked .given .1) (record {
+    rw (arm .answer .given .1) (record {
       number = refl;
       state = c .before .before .put-three .ensures;
-      said = told (start .args .said .now) (arm .ticked .given .0 .1 .0) (omega (arith, start .pre .1));
+      said = told (start .args .said .now) (arm .answer .given .0 .1 .0) (omega (arith, start .pre .1));
     })
 
 same-length-3 : tie.Need-same-length-3
@@ -59,7 +59,7 @@ returns-2 : tie.Need-returns-2
 returns-2 c =
     let arm = c .before .before .before .before .before .before in
     let start = arm .before .before .before .before in
-    rw (arm .ticked2 .given .1) (record {
+    rw (arm .answer2 .given .1) (record {
       number = c .number .ensures;
       state = sym (three-places (start .args .state .now) (start .pre .0));
       said = c .before .before .before .name-ports .ensures;
@@ -69,11 +69,11 @@ pub report-spec : {M : Type 1} → statement M
 report-spec =
     tie.close
     (tie.spec
-    enum-known-ticked
+    enum-known-answer
     put-three-requires
     cast-said
     slice-write-said
-    enum-known-ticked-2
+    enum-known-answer-2
     name-ports-requires
     number-requires
     same-length

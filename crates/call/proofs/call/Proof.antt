@@ -19,14 +19,14 @@ use Rattle.kinds.proofs.PartLaws.{part-length, part-back}
 use Rattle.sheet.specs.Sheet.{Side}
 use Rattle.switches.specs.Cells.{cellOf}
 use Rattle.maps.specs.Opened.{Shows}
-use Rattle.state.specs.States.{Possible, possible?, reading, next}
+use Rattle.state.specs.States.{Possible, reading, next}
+use Rattle.state.specs.Decisions.{possible?}
 use Rattle.state.specs.declared.State.{State}
-use Rattle.memory.specs.Memory.{Memory}
 use Rattle.memory.specs.Serving.{Serves}
 use Rattle.call.specs.Call.{readsOf, writesOf, accessOf}
-use Rattle.call.specs.Tool.{rightTick, callTable}
+use Rattle.call.specs.Tool.{Lent, lengthsOf, callTable}
 use Rattle.call.specs.Inside.{mostPorts}
-use Rattle.call.proofs.PlaceLaws.{reads-length, reads-few, are-places, are-writes, are-reads}
+use Rattle.call.proofs.PlaceLaws.{came-few, reads-length, reads-few, are-places, are-writes, are-reads}
 use Rattle.call.proofs.ToolLaws.{calls-checked, calls-past, SoundCall, call-sound, serving-refuses, serving-does}
 use Rattle.call.proofs.call.Statement.{statement}
 use Rattle.call.proofs.call.Tie as tie
@@ -37,6 +37,15 @@ half-start {h} {n} {half} l few e =
     let short : half ≤ 2 ^ 10 = omega (arith, e, pow-mono few) in
     let lower : h ≤ 1 = omega arith in
     omega (arith, mul-le-mul lower short)
+
+module _ (c : tie.Start) where
+  abbrev lent : Lent
+  lent = record {
+    state = c .args .state;
+    came = c .args .came .now;
+    memory = record { words = c .args .words .now; marks = c .args .marks .now };
+    out = c .args .out .now;
+  }
 
 -- past the check
 module _ (c : tie.After-enum-told) where
@@ -55,17 +64,11 @@ module _ (c : tie.After-enum-told) where
   abbrev ws : List ℕ
   ws = start .args .came .now
 
-  abbrev m : Memory
-  m = record { words = start .args .words .now; marks = start .args .marks .now }
-
-  abbrev out : List ℕ
-  out = start .args .out .now
-
-  none-given : firstOf (callTable edition1 n k st (length ws) (length out) (length (m .words)) (length (m .marks))) ≡ none
+  none-given : firstOf (callTable edition1 n k st (lengthsOf (lent start))) ≡ none
   none-given = sym (c .before .before .check .ensures) ∙ ap said (c .enum-told .given .1)
 
-  sound : SoundCall edition1 n k st (length ws) (length out) (length (m .words)) (length (m .marks))
-  sound = call-sound edition1 n k st _ _ _ _ .0 none-given
+  sound : SoundCall edition1 n k st (lengthsOf (lent start))
+  sound = call-sound edition1 n k st (lengthsOf (lent start)) .0 none-given
 
   few : n ≤ 10
   few = sound .sized .frame .most
@@ -98,9 +101,9 @@ enum-known-checked c = search needs
 returns : tie.Need-returns
 returns c =
     let checked = c .before .before .before in
-    let args = checked .before .before .before .before .before .args in
-    let m : Memory = record { words = args .words .now; marks = args .marks .now } in
-    calls-checked edition1 (args .n) (args .k) (args .write) (args .read) (args .state) (args .came .now) m (args .out .now) (checked .check .result) (checked .check .ensures) (c .before .checked .given .1)
+    let begun = checked .before .before .before .before .before in
+    let args = begun .args in
+    calls-checked edition1 (args .n) (args .k) (args .write) (args .read) (lent begun) (checked .check .result) (checked .check .ensures) (c .before .checked .given .1)
 
 enum-told : tie.Need-enum-told
 enum-told c = search needs
@@ -127,10 +130,6 @@ words-leaving-requires : tie.Need-words-leaving-requires
 words-leaving-requires c κs = search needs
 
 -- how many words come and leave
-tick-few : (k l : ℕ) → rightTick k l ≤ 2 ^ k
-tick-few k zero = omega arith
-tick-few k (suc l) = omega arith
-
 abbrev zeros : List ℕ
 zeros = replicate mostPorts 0
 
@@ -148,7 +147,7 @@ module _ (c : tie.After-words-leaving) where
   leaving = c .words-leaving .result
 
   arriving-few : arriving ≤ mostPorts
-  arriving-few = omega (arith, sound it .right .0, tick-few (k it) arriving, ports-few it)
+  arriving-few = omega (arith, came-few (sound it .right .0), ports-few it)
 
   leaving-is : leaving ≡ cond (reading (ticks (n it) (k it)) (st it)) (2 ^ k it) 0
   leaving-is = c .words-leaving .ensures ∙ ap₂ (λ (T p : ℕ). cond (reading T (st it)) p 0) (frame-ticks halved) (sound it .right .1 .0)
@@ -250,7 +249,8 @@ module _ (c : tie.After-serve) where
   now-at = here back
 
   module _ (W R : Side) (write-shows : Shows (n now-at) (k now-at) (start now-at .args .write) W) (read-shows : Shows (n now-at) (k now-at) (start now-at .args .read) R) where
-    serves : Serves false (k now-at) (accessOf (n now-at) (k now-at) (cellOf (k now-at) W) (cellOf (k now-at) R) (st now-at) (ws now-at)) (m now-at) (out now-at) (c .serve .result)
+    serves : Serves false (k now-at) (accessOf (n now-at) (k now-at) (cellOf (k now-at) W) (cellOf (k now-at) R) (st now-at) (ws now-at))
+        (lent (start now-at) .memory) (lent (start now-at) .out) (c .serve .result)
         (record { words = c .serve .last .1 .1 .1 .1 .1 .1 .0; marks = c .serve .last .1 .1 .1 .1 .1 .1 .1 .0 }) (c .serve .last .1 .1 .1 .1 .1 .0)
     serves = rw (writes-are back W write-shows, reads-are back R read-shows) at (c .serve .ensures)
 
@@ -271,9 +271,9 @@ returns-2 c =
     let served = c .before .before .before .before .before .before .before .before .before in
     let it = now-at served in
     let args = start it .args in
-    calls-past edition1 (n it) (k it) (args .write) (args .read) (st it) (ws it) (m it) (out it) (none-given it)
+    calls-past edition1 (n it) (k it) (args .write) (args .read) (lent (start it)) (none-given it)
     (λ W R write-shows read-shows.
-    serving-refuses (n it) (k it) (cellOf (k it) W) (cellOf (k it) R) (st it) (ws it) (m it) (out it) (sound it) (served .serve .result) (serves served W R write-shows read-shows)
+    serving-refuses (n it) (k it) (cellOf (k it) W) (cellOf (k it) R) (lent (start it)) (sound it) (served .serve .result) (serves served W R write-shows read-shows)
     (ap said (c .before .answer .given .1)))
 
 enum-told-2 : tie.Need-enum-told-2
@@ -301,9 +301,9 @@ returns-3 c =
     let it = now-at served in
     let frame = frame-ticks (halved (at (back served))) in
     let args = start it .args in
-    calls-past edition1 (n it) (k it) (args .write) (args .read) (st it) (ws it) (m it) (out it) (none-given it)
+    calls-past edition1 (n it) (k it) (args .write) (args .read) (lent (start it)) (none-given it)
     (λ W R write-shows read-shows.
-    serving-does (n it) (k it) (cellOf (k it) W) (cellOf (k it) R) (st it) (ws it) (m it) (out it) (sound it) (served .serve .result) (serves served W R write-shows read-shows)
+    serving-does (n it) (k it) (cellOf (k it) W) (cellOf (k it) R) (lent (start it)) (sound it) (served .serve .result) (serves served W R write-shows read-shows)
     (ap said (c .before .enum-told2 .given .1)) (goes-on (ticks (n it) (k it)) (st it) (ws it) frame (sound it .possible) (c .next .ensures))
     (ap (λ (T : ℕ). reading T (st it)) frame))
 

@@ -23,7 +23,7 @@ module _ (c : tie.Start) where
   k = c .args .k
 
   abbrev table : List Reason
-  table = callTable edition1 n k (c .args .state) (c .args .came) (c .args .out) (c .args .words) (c .args .marks)
+  table = callTable edition1 n k (c .args .state) (record { came = c .args .came; out = c .args .out; words = c .args .words; marks = c .args .marks })
 
 sized-requires : tie.Need-sized-requires
 sized-requires c κs = search needs

@@ -1,32 +1,22 @@
 -- `call::lengths_fit` meets its contract. No length of 64 bits is 2^65 or more.
-use Prim.Native.Nat.{ℕ, zero, suc, _+_, _^_}
-use mathlib.Core.Path.{_≡_, refl, sym, _∙_}
+use Prim.Native.Nat.{_+_, _^_}
 use mathlib.Core.List.{[], _∷_}
-use mathlib.Core.Logic.{_≢_}
+use mathlib.Core.Logic.{inl, inr, ⊎-elim}
 use borrow.Author.Needs.{needs}
 use borrow.Author.Tests.{not-true, not-false}
 use native.Mathlib.Omega.{arith}
 use lib.Pow.{pow-mono}
-use Rattle.kinds.specs.Reasons.{RightLengths}
+use Rattle.kinds.specs.Lengths.{exactly, RightLengths}
 use Rattle.kinds.proofs.TruthLaws.{says-no, says-yes, denied}
-use Rattle.call.specs.Tool.{rightTick}
 use Rattle.call.proofs.lengths_fit.Statement.{statement}
 use Rattle.call.proofs.lengths_fit.Tie as tie
-
-blank : (k l : ℕ) → l ≡ 0 → l ≡ rightTick k l
-blank k zero e = refl
-blank k (suc l) e = absurd (omega arith)
-
-words-came : (k l : ℕ) → l ≢ 0 → rightTick k l ≡ 2 ^ k
-words-came k zero n = absurd (n refl)
-words-came k (suc l) n = refl
 
 -- the lengths but that of the tick
 module _ (c : tie.Else4) where
   abbrev start : tie.Start
   start = c .before .before .before .before .before .before .before
 
-  fitting : RightLengths ((start .args .out, 2 ^ start .args .k) ∷ (start .args .words, 2 ^ (start .args .n + 1)) ∷ (start .args .marks, 2 ^ (start .args .n + 1)) ∷ [])
+  fitting : RightLengths ((start .args .out, exactly (2 ^ start .args .k)) ∷ (start .args .words, exactly (2 ^ (start .args .n + 1))) ∷ (start .args .marks, exactly (2 ^ (start .args .n + 1))) ∷ [])
   fitting = (
     c .before .is-two-to3 .ensures .0 (not-false _ (c .if4 .left)),
     (
@@ -63,15 +53,16 @@ returns-4 : tie.Need-returns-4
 returns-4 c = says-no (λ s. denied (c .before .is-two-to3 .ensures) (not-true _ (c .if4 .taken)) (s .1 .0))
 
 returns-5 : tie.Need-returns-5
-returns-5 c = says-yes (blank _ _ (c .if5 .taken), fitting (c .before))
+returns-5 c = says-yes (inr (c .if5 .taken), fitting (c .before))
 
 is-two-to-requires-4 : tie.Need-is-two-to-requires-4
 is-two-to-requires-4 c κs = search needs
 
 returns-6 : tie.Need-returns-6
-returns-6 c =
-    let right = words-came _ _ (c .before .if5 .left) in
-    (λ e. (c .is-two-to4 .ensures .0 e ∙ sym right, fitting (c .before .before)), λ s. c .is-two-to4 .ensures .1 (s .0 ∙ right))
+returns-6 c = (
+  λ e. (inl (c .is-two-to4 .ensures .0 e), fitting (c .before .before)),
+  λ s. c .is-two-to4 .ensures .1 (⊎-elim (λ e. e) (λ none. absurd (c .before .if5 .left none)) (s .0)),
+)
 
 pub lengths-fit-spec : {M : Type 1} → statement M
 lengths-fit-spec =

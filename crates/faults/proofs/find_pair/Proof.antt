@@ -10,7 +10,8 @@ use borrow.Author.Needs.{needs}
 use lib.Bits.{bitAnd}
 use lib.ListN.{length, getD}
 use Rattle.kinds.specs.Frame.{bankOf}
-use Rattle.faults.specs.Faults.{WantOneBank, LaterPort, firstPair}
+use Rattle.faults.specs.Faults.{WantOneBank, LaterWants}
+use Rattle.faults.specs.Table.{firstPair}
 use Rattle.faults.specs.declared.Pair.{Pair}
 use Rattle.faults.specs.declared.Pair.the-variants.{Nowhere, Between}
 use Rattle.faults.proofs.FaultLaws.{pair-nowhere, pair-between}
@@ -19,7 +20,7 @@ use Rattle.faults.proofs.find_pair.Tie as tie
 
 record Passed (k : ℕ) (cs : List ℕ) (pair : Pair) (p : ℕ) : Type 0 where
   nowhere : pair ≡ Nowhere
-  alone : (i : ℕ) → i < p → ¬ LaterPort k cs i
+  alone : (i : ℕ) → i < p → ¬ LaterWants k cs i
 
 record Compared (k : ℕ) (cs : List ℕ) (pair : Pair) (p q : ℕ) : Type 0 where
   passed : Passed k cs pair p

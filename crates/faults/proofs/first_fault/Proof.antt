@@ -16,8 +16,9 @@ use Rattle.kinds.specs.declared.Refusal.{Refusal}
 use Rattle.kinds.specs.declared.Refusal.the-variants.{WriteClash, ReadClash}
 use Rattle.kinds.proofs.TruthLaws.{says-no, says-yes, denied}
 use Rattle.kinds.proofs.FirstLaws.{first-nil, first-take, first-skip}
-use Rattle.faults.specs.Marks.{marked}
-use Rattle.faults.specs.Faults.{SomeMarked, firstPair, clash, overwrite, emptyRead, faults, judgedOn, mostCells, faultTable}
+use Rattle.faults.specs.Marks.{withMarks}
+use Rattle.faults.specs.Faults.{SomeMarked, judgedOn, mostCells}
+use Rattle.faults.specs.Table.{firstPair, clash, overwrite, emptyRead, faults, faultTable}
 use Rattle.faults.specs.declared.Pair.the-variants.{Between}
 use Rattle.faults.proofs.MarkLaws.{put-nil}
 use Rattle.faults.proofs.FaultLaws.{pair-clash, first-pair-named, pair-nowhere, pair-between, pair-counted}
@@ -32,9 +33,9 @@ clash-given F k cs rest {p} {q} e =
     first-take _ rest (pair-clash pair) ∙ rw (second, first)
 
 -- the marks after those cells were emptied that were freed
-judged : (after : Bool) (reads l : List ℕ) (m : ℕ) → m ≡ cond after (length reads) 0 → marked 0 (take (m - 0) reads) l ≡ judgedOn after reads l
-judged true reads l m e = ap (λ (i : ℕ). marked 0 (take i reads) l) (sub-zero m ∙ e) ∙ ap (λ (x : List ℕ). marked 0 x l) (take-length reads)
-judged false reads l m e = ap (λ (i : ℕ). marked 0 (take i reads) l) (sub-zero m ∙ e) ∙ put-nil _ l
+judged : (after : Bool) (reads l : List ℕ) (m : ℕ) → m ≡ cond after (length reads) 0 → withMarks 0 (take (m - 0) reads) l ≡ judgedOn after reads l
+judged true reads l m e = ap (λ (i : ℕ). withMarks 0 (take i reads) l) (sub-zero m ∙ e) ∙ ap (λ (x : List ℕ). withMarks 0 x l) (take-length reads)
+judged false reads l m e = ap (λ (i : ℕ). withMarks 0 (take i reads) l) (sub-zero m ∙ e) ∙ put-nil _ l
 
 module _ (c : tie.Start) where
   abbrev after : Bool

@@ -8,7 +8,7 @@ use borrow.Author.Count.{below-none, below-more}
 use borrow.Author.Needs.{needs}
 use lib.ListN.{length, getD, List·getD-eq-default}
 use Rattle.kinds.proofs.TruthLaws.{says-no, says-yes}
-use Rattle.faults.specs.Marks.{Filled, marked}
+use Rattle.faults.specs.Marks.{Filled, withMarks}
 use Rattle.faults.proofs.MarkLaws.{put-length, put-other, zero-stays, marked-zero}
 use Rattle.faults.proofs.is_filled.Statement.{statement}
 use Rattle.faults.proofs.is_filled.Tie as tie
@@ -16,16 +16,16 @@ use Rattle.faults.proofs.is_filled.Tie as tie
 record Passed (cell : ℕ) (freed : List ℕ) (q : ℕ) : Type 0 where
   other : (i : ℕ) → i < q → getD freed i 0 ≢ cell
 
-beyond : (freed marks : List ℕ) (cell : ℕ) → length marks ≤ cell → ¬ Filled (marked 0 freed marks) cell
-beyond freed marks cell h filled = filled (List·getD-eq-default (marked 0 freed marks) 0 (rw (put-length freed _ marks) h))
+beyond : (freed marks : List ℕ) (cell : ℕ) → length marks ≤ cell → ¬ Filled (withMarks 0 freed marks) cell
+beyond freed marks cell h filled = filled (List·getD-eq-default (withMarks 0 freed marks) 0 (rw (put-length freed _ marks) h))
 
-empty : (freed marks : List ℕ) (cell : ℕ) → getD marks cell 0 ≡ 0 → ¬ Filled (marked 0 freed marks) cell
+empty : (freed marks : List ℕ) (cell : ℕ) → getD marks cell 0 ≡ 0 → ¬ Filled (withMarks 0 freed marks) cell
 empty freed marks cell e filled = filled (zero-stays freed marks cell e)
 
-freed-now : (freed marks : List ℕ) (cell q : ℕ) → q < length freed → getD freed q 0 ≡ cell → ¬ Filled (marked 0 freed marks) cell
+freed-now : (freed marks : List ℕ) (cell q : ℕ) → q < length freed → getD freed q 0 ≡ cell → ¬ Filled (withMarks 0 freed marks) cell
 freed-now freed marks cell q h e filled = filled (rw e at (marked-zero freed marks q h))
 
-still : (freed marks : List ℕ) (cell q : ℕ) → Passed cell freed q → length freed ≤ q → getD marks cell 0 ≢ 0 → Filled (marked 0 freed marks) cell
+still : (freed marks : List ℕ) (cell q : ℕ) → Passed cell freed q → length freed ≤ q → getD marks cell 0 ≢ 0 → Filled (withMarks 0 freed marks) cell
 still freed marks cell q i h filled e = filled (sym (put-other freed _ marks cell (λ p l. i .other p (omega arith))) ∙ e)
 
 abbrev Inv-loop : tie.InvT-loop

@@ -9,12 +9,12 @@ use borrow.Author.Needs.{needs}
 use lib.ListN.{length, getD}
 use Rattle.kinds.specs.Answers.{Says}
 use Rattle.kinds.proofs.TruthLaws.{false≢true, says-no, says-yes, denied}
-use Rattle.faults.specs.Marks.{Filled, marked}
+use Rattle.faults.specs.Marks.{Filled, withMarks}
 use Rattle.faults.proofs.some_cell.Statement.{statement}
 use Rattle.faults.proofs.some_cell.Tie as tie
 
 record Passed (cells freed marks : List ℕ) (filled : Bool) (p : ℕ) : Type 0 where
-  other : (q : ℕ) → q < p → ¬ Says filled (Filled (marked 0 freed marks) (getD cells q 0))
+  other : (q : ℕ) → q < p → ¬ Says filled (Filled (withMarks 0 freed marks) (getD cells q 0))
 
 says-alike : {A : Type 0} (b c : Bool) → Says b A → Says (Bool·beq b c) (Says c A)
 says-alike true true s = says-yes s

@@ -22,7 +22,9 @@ use Rattle.bits.proofs.PaddedLaws.{padded-at, padded-part}
 use Rattle.switches.specs.Cells.{M, N, cellColumns}
 use Rattle.bits.specs.Padded.{arrayWidth, padded}
 use Rattle.maps.specs.Opened.{Shows}
-use Rattle.promise.specs.Passes.{Invertible, ShareCell, Differ, shareCell?, differ?, passTable}
+use Rattle.promise.specs.Agreement.{Invertible, ShareCell, Differ}
+use Rattle.promise.specs.Decisions.{shareCell?, differ?}
+use Rattle.promise.specs.Realises.{mapTable}
 use Rattle.inspect.proofs.ColumnLaws.{wiring-tells, cells-tell, columns-tell}
 use Rattle.inspect.proofs.judge.Statement.{statement}
 use Rattle.inspect.proofs.judge.Tie as tie
@@ -116,7 +118,7 @@ module _ (c : tie.After-agree) (s : List ℕ) where
   R = readSide edition1 n k s
 
   abbrev table : List Reason
-  table = passTable edition1 n k C s
+  table = mapTable edition1 n k C s
 
   module _ (write : Shows n k (start .args .write) W) (read : Shows n k (start .args .read) R) where
     says-6 : Says (write-wired .independent .result) (Invertible k W)

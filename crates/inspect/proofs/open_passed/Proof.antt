@@ -7,10 +7,11 @@ use mathlib.Core.Option.{none}
 use native.Mathlib.Omega.{arith}
 use borrow.Author.Needs.{needs}
 use borrow.Author.Tests.{not-true, not-false}
-use Rattle.kinds.specs.Edition.{edition1, Sized, sized?}
+use Rattle.kinds.specs.Edition.{edition1, Sized}
+use Rattle.kinds.specs.Decisions.{sized?}
 use Rattle.kinds.specs.Refusal.{said}
 use Rattle.kinds.specs.First.{Reason, firstOf}
-use Rattle.kinds.specs.Reasons.{RightLengths}
+use Rattle.kinds.specs.Lengths.{RightLengths}
 use Rattle.kinds.specs.declared.Answer.the-variants.{Done}
 use Rattle.kinds.proofs.TruthLaws.{says-yes, denied}
 use Rattle.kinds.proofs.AnswerLaws.{not-both, said-before, one-length}

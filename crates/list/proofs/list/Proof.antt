@@ -6,9 +6,10 @@ use native.Mathlib.Omega.{arith}
 use borrow.Author.Needs.{needs}
 use borrow.Author.Tests.{not-true, not-false}
 use lib.ListN.{length, take}
-use Rattle.kinds.specs.Edition.{edition1, Sized, sized?}
+use Rattle.kinds.specs.Edition.{edition1, Sized}
+use Rattle.kinds.specs.Decisions.{sized?}
 use Rattle.kinds.specs.First.{firstOf}
-use Rattle.kinds.specs.Reasons.{RightLengths}
+use Rattle.kinds.specs.Lengths.{Wanted, RightLengths}
 use Rattle.kinds.specs.Refusal.{said}
 use Rattle.kinds.specs.declared.Answer.the-variants.{Done}
 use Rattle.kinds.proofs.AnswerLaws.{said-before, refuses, does}
@@ -19,7 +20,7 @@ use Rattle.kinds.specs.Answers.{onto}
 use Rattle.bits.proofs.PaddedLaws.{padded-length}
 use Rattle.card.specs.Card.{mostColumns, Readable, columnsOn, unreadable, cardTable}
 use Rattle.list.specs.Listing.{listing}
-use Rattle.list.specs.Tool.{room, listLengths}
+use Rattle.list.specs.Tool.{textPlaces, listLengths}
 use Rattle.card.specs.declared.Reading.{Reading}
 use Rattle.card.proofs.CardLaws.{card?, columns-few}
 use Rattle.list.proofs.ListLaws.{order-on-card, listed-read, writes-onto, one-set}
@@ -50,7 +51,7 @@ module _ (c : tie.After-check-with-k) where
   abbrev at : tie.After-read
   at = c .before .before .before .before .before .before .before
 
-  abbrev lengths : List (ℕ × ℕ)
+  abbrev lengths : List (ℕ × Wanted)
   lengths = listLengths (t at) (l at)
 
   readable : R at .answer ≡ Done
@@ -65,7 +66,7 @@ module _ (c : tie.After-check-with-k) where
         order-sound (sized? edition1 (R at .n) (R at .k)) (R at .n) (columns at) lengths .0
         (sym (c .check-with-k .ensures lengths (c .before .before .before .before .lent-right .ensures)) ∙ ap said done)
 
-    fits : length (listing (R at .n) (R at .k) (columns at)) ≤ room
+    fits : length (listing (R at .n) (R at .k) (columns at)) ≤ textPlaces
     fits = listing-fits (sound .0) (sound .2)
 
 read-requires : tie.Need-read-requires

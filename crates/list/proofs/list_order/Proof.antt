@@ -6,7 +6,8 @@ use native.Mathlib.Omega.{arith}
 use borrow.Author.Needs.{needs}
 use lib.ListN.{length, take, drop, replicate, length-append}
 use lib.Pow.{pow-mono}
-use Rattle.kinds.specs.Edition.{edition1, Sized, sized?}
+use Rattle.kinds.specs.Edition.{edition1, Sized}
+use Rattle.kinds.specs.Decisions.{sized?}
 use Rattle.kinds.specs.Refusal.{said}
 use Rattle.kinds.specs.declared.Answer.the-variants.{Done}
 use Rattle.kinds.proofs.AnswerLaws.{answers-done}
@@ -15,6 +16,7 @@ use Rattle.order.specs.Order.{Order}
 use Rattle.order.proofs.TableLaws.{order-sound}
 use Rattle.sheet.specs.Table.{sheetLengths}
 use Rattle.kinds.proofs.PartLaws.{part-length, part-back}
+use Rattle.kinds.specs.Lengths.{exactly}
 use Rattle.plan.specs.Planned.{plannedSheet}
 use Rattle.trial.specs.Trial.{lampOrder}
 use Rattle.list.proofs.RoomLaws.{listing-fits}
@@ -70,7 +72,7 @@ module _ (c : tie.After-trial) where
   done : c .trial .result ≡ Done
   done =
       answers-done
-      (order-sound (sized? edition1 (n called) (k called)) (n called) (C called) (sheetLengths edition1 (replicate 64 0) ++ (length (take (room - 0) zeros), 2 ^ n called) ∷ []) .1
+      (order-sound (sized? edition1 (n called) (k called)) (n called) (C called) (sheetLengths edition1 (replicate 64 0) ++ (length (take (room - 0) zeros), exactly (2 ^ n called)) ∷ []) .1
       (sized called, (refl, (lent, tt)), order called))
       (c .trial .ensures)
 

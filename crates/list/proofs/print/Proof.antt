@@ -15,7 +15,7 @@ use Rattle.text.specs.Decimal.{codes}
 use Rattle.kinds.specs.Answers.{onto}
 use Rattle.card.specs.Card.{Readable, cardTable}
 use Rattle.lines.specs.Line.{line}
-use Rattle.list.specs.Tool.{room, listLengths, textFor}
+use Rattle.list.specs.Tool.{textPlaces, listLengths, textFor}
 use Rattle.list.proofs.ListLaws.{lengths-right, refusal-short, prints-by}
 use Rattle.list.proofs.print.Statement.{statement}
 use Rattle.list.proofs.print.Tie as tie
@@ -33,7 +33,7 @@ module _ (c : tie.After-list) where
   abbrev t : List ℕ
   t = start .args .text .now
 
-  whole : length t ≡ room
+  whole : length t ≡ textPlaces
   whole = omega (arith, slice-aggregate-list (c .before))
 
   said-by : (d : Dec (Readable b)) → firstOf (cardTable edition1 d []) ≡ said (c .list .result)

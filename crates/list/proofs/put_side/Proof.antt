@@ -7,7 +7,7 @@ use borrow.Author.Needs.{needs}
 use lib.ListN.{getD, take, length-take}
 use Rattle.bits.specs.Padded.{paddedTo}
 use Rattle.bits.proofs.PaddedLaws.{padded-part}
-use Rattle.list.specs.Inside.{counted, Counted}
+use Rattle.list.specs.Inside.{countedStages, Counted}
 use Rattle.list.proofs.put_side.Statement.{statement}
 use Rattle.list.proofs.put_side.Tie as tie
 
@@ -15,7 +15,7 @@ module _ {places : List ℕ} (counts : Counted places) where
   abbrev end : ℕ
   end = 1 + 2 * getD places 0 0
 
-  listed : {numbers : List ℕ} → numbers ≡ paddedTo 17 (take (end - 0) places) → take (end - 0) numbers ≡ counted places
+  listed : {numbers : List ℕ} → numbers ≡ paddedTo 17 (take (end - 0) places) → take (end - 0) numbers ≡ countedStages places
   listed e =
       rw e
       (padded-part 17 (take (end - 0) places) end (omega (arith, length-take (end - 0) places))

@@ -9,7 +9,7 @@ use borrow.Author.Needs.{needs}
 use lib.ListN.{length, take, drop, length-append}
 use lib.Pow.{pow-pos, pow-mono, shr-le}
 use Rattle.text.specs.Decimal.{decimal}
-use Rattle.promise.specs.Series.{tickIn}
+use Rattle.promise.specs.Series.{wordsOfTick}
 use Rattle.lines.specs.Line.{lineEnd}
 use Rattle.lines.specs.Written.{Writes, Puts}
 use Rattle.list.specs.Inside.{tickLines, Frames}
@@ -40,18 +40,18 @@ module _ {k : ℕ} {l : List ℕ} {at : ℕ} {text₀ text : List ℕ} {ports pl
     few = omega (arith, tick, shr-le (length l) k)
 
     abbrev rest : List ℕ
-    rest = lineEnd (tickIn k l c) ++ ticksFrom k l (c + 1)
+    rest = lineEnd (wordsOfTick k l c) ++ ticksFrom k l (c + 1)
 
     this : ticksFrom k l c ≡ decimal c ++ (code ":" ∷ rest)
     this = ticks-more k l c tick
 
-    part : take (end - start) (drop start l) ≡ tickIn k l c
+    part : take (end - start) (drop start l) ≡ wordsOfTick k l c
     part = tick-part k l c (w .begins) (omega (arith, w .ends, w .words)) h
 
     room : place + length (decimal c) + 1 + length (lineEnd (take (end - start) (drop start l))) ≤ length text
     room =
         rw part
-        (omega (arith, w .left, ap length this, length-append (decimal c) (code ":" ∷ rest), length-append (lineEnd (tickIn k l c)) (ticksFrom k l (c + 1))))
+        (omega (arith, w .left, ap length this, length-append (decimal c) (code ":" ∷ rest), length-append (lineEnd (wordsOfTick k l c)) (ticksFrom k l (c + 1))))
 
     more : {x y z : List ℕ} {p q r : ℕ} → Puts (decimal c) place text x p → Puts (code ":" ∷ []) p x y q
         → Puts (lineEnd (take (end - start) (drop start l))) q y z r → Writing k l at text₀ z ports r (c + 1) end (end + ports)

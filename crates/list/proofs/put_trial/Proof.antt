@@ -7,7 +7,7 @@ use lib.ListN.{length, length-append}
 use Rattle.text.specs.Decimal.{codes}
 use Rattle.lines.specs.Line.{line}
 use Rattle.lines.specs.Written.{Writes}
-use Rattle.list.specs.Inside.{counted, tickLines, writeCount, readCount}
+use Rattle.list.specs.Inside.{countedStages, tickLines, writeCount, readCount}
 use Rattle.lines.proofs.WriteLaws.{writes-then}
 use Rattle.list.proofs.put_trial.Statement.{statement}
 use Rattle.list.proofs.put_trial.Tie as tie
@@ -17,10 +17,10 @@ module _ (c : tie.Start) where
   orders = line (codes "order") (c .args .n ∷ c .args .k ∷ [])
 
   abbrev writes : List ℕ
-  writes = line (codes "write") (counted (writeCount (c .args .sheet .now)))
+  writes = line (codes "write") (countedStages (writeCount (c .args .sheet .now)))
 
   abbrev reads : List ℕ
-  reads = line (codes "read") (counted (readCount (c .args .sheet .now)))
+  reads = line (codes "read") (countedStages (readCount (c .args .sheet .now)))
 
   abbrev ticks : List ℕ
   ticks = tickLines (c .args .k) (c .args .frame .now)

@@ -15,10 +15,10 @@ use Rattle.kinds.specs.declared.Refusal.{Refusal}
 use Rattle.kinds.proofs.TruthLaws.{holds-yes, denied}
 use Rattle.kinds.proofs.FirstLaws.{first-take, first-skip}
 use Rattle.kinds.proofs.AnswerLaws.{refused-by, refuses, does}
-use Rattle.faults.specs.Marks.{put, marked}
-use Rattle.faults.specs.Faults.{faultTable}
-use Rattle.memory.specs.Memory.{Memory, Access, wordsAt, served}
-use Rattle.memory.specs.Serving.{Fitting, serveTable}
+use Rattle.faults.specs.Marks.{put, withMarks}
+use Rattle.faults.specs.Table.{faultTable}
+use Rattle.memory.specs.Memory.{Memory, Access, wordsAt, served, Fitting}
+use Rattle.memory.specs.Serving.{serveTable}
 use Rattle.memory.proofs.MemoryLaws.{same-memory}
 use Rattle.memory.proofs.serve.Statement.{statement}
 use Rattle.memory.proofs.serve.Tie as tie
@@ -34,12 +34,12 @@ module _ (A : Access) (m : Memory) (out : List ℕ) (fit : Fitting (length (A .w
   each = ℕ-discrete (length (A .words)) (length (A .writes))
 
   both-done : {out' marks₁ words' marks' : List ℕ} → out' ≡ ifHolds room (onto (wordsAt (A .reads) (m .words)) out) out
-      → marks₁ ≡ ifHolds room (marked 0 (A .reads) (m .marks)) (m .marks) → words' ≡ ifHolds each (put (A .writes) (A .words) (m .words)) (m .words)
-      → marks' ≡ ifHolds each (marked 1 (A .writes) marks₁) marks₁
+      → marks₁ ≡ ifHolds room (withMarks 0 (A .reads) (m .marks)) (m .marks) → words' ≡ ifHolds each (put (A .writes) (A .words) (m .words)) (m .words)
+      → marks' ≡ ifHolds each (withMarks 1 (A .writes) marks₁) marks₁
       → (_≡_ {A = Memory} (record { words = words'; marks = marks' }) (served A m)) × (out' ≡ onto (wordsAt (A .reads) (m .words)) out)
   both-done o e w f = (
     same-memory (w ∙ holds-yes each _ _ (fit .a-word-each))
-        (f ∙ holds-yes each _ _ (fit .a-word-each) ∙ ap (marked 1 (A .writes)) (e ∙ holds-yes room _ _ (fit .room))),
+        (f ∙ holds-yes each _ _ (fit .a-word-each) ∙ ap (withMarks 1 (A .writes)) (e ∙ holds-yes room _ _ (fit .room))),
     o ∙ holds-yes room _ _ (fit .room),
   )
 

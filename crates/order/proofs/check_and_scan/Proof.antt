@@ -1,7 +1,8 @@
 -- `order::check_and_scan` meets its contract.
 use borrow.Author.Needs.{needs}
 use borrow.Author.Tests.{not-true, not-false}
-use Rattle.kinds.specs.Edition.{edition1, sizedN?}
+use Rattle.kinds.specs.Edition.{edition1}
+use Rattle.kinds.specs.Decisions.{sizedN?}
 use Rattle.kinds.proofs.TruthLaws.{denied}
 use Rattle.kinds.proofs.AnswerLaws.{not-both}
 use Rattle.order.proofs.TableLaws.{outside-sizes, within-sizes}

@@ -10,7 +10,7 @@ use borrow.Author.Tests.{not-true, not-false}
 use lib.ListN.{length}
 use Rattle.kinds.specs.Refusal.{said}
 use Rattle.kinds.specs.First.{firstOf}
-use Rattle.kinds.specs.Reasons.{RightLengths}
+use Rattle.kinds.specs.Lengths.{Wanted, RightLengths}
 use Rattle.kinds.specs.Answers.{Says}
 use Rattle.kinds.specs.declared.Answer.the-variants.{Refused}
 use Rattle.kinds.specs.declared.Refusal.{Refusal}
@@ -27,7 +27,7 @@ use Rattle.order.proofs.check_columns.Statement.{statement}
 use Rattle.order.proofs.check_columns.Tie as tie
 
 record Gives (n : ℕ) (C : List ℕ) (fits : Bool) (o : Option Refusal) : Type 0 where
-  gives : (others : List (ℕ × ℕ)) → Says fits (RightLengths others)
+  gives : (others : List (ℕ × Wanted)) → Says fits (RightLengths others)
       → firstOf (columnTable n (C ∷ []) others) ≡ o
 
 module _ {n : ℕ} {C : List ℕ} {fits : Bool} where

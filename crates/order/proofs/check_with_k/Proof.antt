@@ -2,7 +2,8 @@
 use mathlib.Core.Path.{refl}
 use borrow.Author.Needs.{needs}
 use borrow.Author.Tests.{not-true, not-false}
-use Rattle.kinds.specs.Edition.{edition1, sized?}
+use Rattle.kinds.specs.Edition.{edition1}
+use Rattle.kinds.specs.Decisions.{sized?}
 use Rattle.kinds.proofs.TruthLaws.{denied}
 use Rattle.order.proofs.TableLaws.{outside-sizes, within-sizes}
 use Rattle.order.proofs.check_with_k.Statement.{statement}

@@ -7,7 +7,8 @@ use native.Mathlib.Omega.{arith}
 use borrow.Author.Needs.{needs}
 use borrow.Author.Tests.{not-true, not-false}
 use lib.ListN.{length}
-use Rattle.kinds.specs.Edition.{edition1, SizedN, sizedN?}
+use Rattle.kinds.specs.Edition.{edition1, SizedN}
+use Rattle.kinds.specs.Decisions.{sizedN?}
 use Rattle.kinds.specs.Refusal.{said}
 use Rattle.kinds.specs.First.{firstOf}
 use Rattle.kinds.specs.declared.Answer.the-variants.{Done}

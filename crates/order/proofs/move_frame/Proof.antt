@@ -7,16 +7,17 @@ use native.Mathlib.Omega.{arith}
 use borrow.Author.Needs.{needs}
 use borrow.Author.Tests.{not-true, not-false}
 use lib.ListN.{length}
-use Rattle.kinds.specs.Edition.{edition1, SizedN, sizedN?}
+use Rattle.kinds.specs.Edition.{edition1, SizedN}
+use Rattle.kinds.specs.Decisions.{sizedN?}
 use Rattle.kinds.specs.Refusal.{said}
 use Rattle.kinds.specs.First.{firstOf}
-use Rattle.kinds.specs.Reasons.{RightLengths}
+use Rattle.kinds.specs.Lengths.{RightLengths}
 use Rattle.kinds.specs.declared.Answer.the-variants.{Done}
 use Rattle.kinds.proofs.TruthLaws.{denied}
 use Rattle.kinds.proofs.AnswerLaws.{refuses, does}
 use Rattle.order.specs.Order.{Order}
 use Rattle.order.specs.Table.{moverLengths, moverTable}
-use Rattle.order.specs.Inside.{Frames}
+use Rattle.order.specs.Inside.{TwoFrames}
 use Rattle.order.proofs.TableLaws.{order-sound}
 use Rattle.order.proofs.move_frame.Statement.{statement}
 use Rattle.order.proofs.move_frame.Tie as tie
@@ -56,7 +57,7 @@ module _ (c : tie.After-is-done) where
     sound : SizedN edition1 n × RightLengths (moverLengths n frame out) × Order n C
     sound = order-sound (sizedN? edition1 n) n C (moverLengths n frame out) .0 (sym says ∙ ap said done)
 
-    frames : Frames (length C) C frame out
+    frames : TwoFrames (length C) C frame out
     frames = rw (sound .2 .count) (
         record {
           few = omega (arith, sound .0 .most, sound .2 .count);

@@ -15,9 +15,9 @@ use lib.Seq.{getD-set-same, getD-set-other}
 use Rattle.bits.proofs.XorLaws.{xor-cancel}
 use Rattle.bits.proofs.ImageLaws.{image-zero, image-xor}
 use Rattle.bits.proofs.NextLaws.{trailing-lt, next-xor}
-use Rattle.span.specs.Tools.{room}
+use Rattle.span.specs.Tools.{mostScanned}
 use Rattle.order.specs.Order.{place, Moved}
-use Rattle.order.specs.Inside.{Steps, Frames}
+use Rattle.order.specs.Inside.{Steps, TwoFrames}
 use Rattle.order.proofs.OrderLaws.{order-bijection}
 use Rattle.order.proofs.move_words.Statement.{statement}
 use Rattle.order.proofs.move_words.Tie as tie
@@ -26,20 +26,20 @@ abbrev zeros : ℕ → ℕ
 zeros = trailingZeros 64
 
 record Moving (n : ℕ) (C f s g : List ℕ) (p i : ℕ) : Type 0 where
-  frames : Frames n C f g
+  frames : TwoFrames n C f g
   steps : Steps C s
   here : i < 2 ^ n → p ≡ place C i
   each : (l : ℕ) → l < i → getD g (place C l) 0 ≡ getD f l 0
 
-start : {n : ℕ} {C f s g : List ℕ} → Frames n C f g → Steps C s → Moving n C f s g 0 0
+start : {n : ℕ} {C f s g : List ℕ} → TwoFrames n C f g → Steps C s → Moving n C f s g 0 0
 start {C} frames steps = record { frames = frames; steps = steps; here = λ _. sym (image-zero C); each = below-none _ }
 
 module _ {n : ℕ} {C f s g : List ℕ} {p i : ℕ} (m : Moving n C f s g p i) (h : i < length f) where
   word : i < 2 ^ n
   word = omega arith
 
-  narrow : 2 ^ n < 2 ^ (room + 1)
-  narrow = pow-lt {i = n} {j = room + 1} (omega arith)
+  narrow : 2 ^ n < 2 ^ (mostScanned + 1)
+  narrow = pow-lt {i = n} {j = mostScanned + 1} (omega arith)
 
   at-place : p ≡ place C i
   at-place = m .here word
@@ -47,8 +47,8 @@ module _ {n : ℕ} {C f s g : List ℕ} {p i : ℕ} (m : Moving n C f s g p i) (
   target : p < length g
   target = omega (arith, at-place, order-bijection (m .frames .order) .into i word)
 
-  next : zeros (i + 1) < room + 1
-  next = trailing-lt 64 (room + 1) (i + 1) (omega arith) (omega (arith, word, narrow)) (omega arith)
+  next : zeros (i + 1) < mostScanned + 1
+  next = trailing-lt 64 (mostScanned + 1) (i + 1) (omega arith) (omega (arith, word, narrow)) (omega arith)
 
   step : i + 1 < 2 ^ n → bitXor p (getD s (zeros (i + 1)) 0) ≡ place C (i + 1)
   step l =

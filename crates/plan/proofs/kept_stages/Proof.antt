@@ -14,9 +14,9 @@ use Rattle.kinds.specs.Answers.{Says}
 use Rattle.kinds.proofs.TruthLaws.{denied}
 use Rattle.bits.specs.Padded.{arrayWidth, padded}
 use Rattle.bits.proofs.PaddedLaws.{padded-length, padded-part, padded-snoc}
-use Rattle.span.specs.Scan.{IsKept, keptAt, masks}
+use Rattle.span.specs.Scan.{keptAt, masks}
 use Rattle.span.specs.Rows.{row}
-use Rattle.span.proofs.ScanLaws.{kept-or-sum, keptAt-old, keptAt-new}
+use Rattle.span.proofs.ScanLaws.{kept-or-sum, keptAt-old, keptAt-new, IsKept}
 use Rattle.span.proofs.MaskLaws.{masks-length, masks-at}
 use Rattle.rows.specs.Listed.{keptIn}
 use Rattle.rows.proofs.KeptLaws.{told}

@@ -12,8 +12,8 @@ use Rattle.bits.specs.Image.{columns}
 use Rattle.bits.specs.Padded.{arrayWidth, padded}
 use Rattle.bits.proofs.PaddedLaws.{padded-length, padded-part}
 use Rattle.sheet.specs.Sheet.{Stage, Side, flat, laidOut}
-use Rattle.sheet.specs.Layout.{Layable, InRange}
-use Rattle.sheet.proofs.LayLaws.{same-side}
+use Rattle.sheet.specs.Layout.{InRange}
+use Rattle.sheet.proofs.LayLaws.{same-side, Layable}
 use Rattle.switches.specs.Cells.{tickToBank}
 use Rattle.switches.specs.Written.{keptStages}
 use Rattle.lay.specs.Staged.{staged, ShowsStages}

@@ -17,7 +17,7 @@ use Rattle.order.specs.Parts.{rowsP1, rowsP3}
 use Rattle.order.proofs.RowLaws.{rows-together}
 use Rattle.bits.specs.Padded.{arrayWidth, padded}
 use Rattle.bits.proofs.PaddedLaws.{padded-at, padded-length, padded-part}
-use Rattle.rows.specs.Listed.{listed, unitsOf}
+use Rattle.rows.specs.Listed.{keptNumbers, unitsOf}
 use Rattle.lay.specs.Staged.{pairs, staged}
 use Rattle.lay.proofs.PairLaws.{pairs-length}
 use Rattle.plan.specs.Planned.{othersOfP1, keptOfP3, readStages}
@@ -108,13 +108,13 @@ module _ (c : tie.After-list-rows2) where
   others : c .before .before .list-rows .result ≡ unitsOf (othersOfP1 k C)
   others =
       c .before .before .list-rows .ensures
-      ∙ ap (λ (b : ℕ). unitsOf (listed found 0 b false)) {x = min k arrayWidth} {y = k} (omega (arith, start .pre .sized .most))
+      ∙ ap (λ (b : ℕ). unitsOf (keptNumbers found 0 b false)) {x = min k arrayWidth} {y = k} (omega (arith, start .pre .sized .most))
       ∙ ap unitsOf (others-listed n k C within found masked)
 
   kept : c .list-rows2 .result ≡ unitsOf (keptOfP3 n k C)
   kept =
       c .list-rows2 .ensures
-      ∙ ap (λ (b : ℕ). unitsOf (listed found k b true)) {x = min n arrayWidth} {y = n} (omega (arith, start .pre .sized .frame .most))
+      ∙ ap (λ (b : ℕ). unitsOf (keptNumbers found k b true)) {x = min n arrayWidth} {y = n} (omega (arith, start .pre .sized .frame .most))
       ∙ ap unitsOf (kept-listed n k C within found masked)
 
   abbrev count : ℕ

@@ -15,7 +15,7 @@ use lib.Seq.{getD-take, getD-drop, length-take-le}
 use Rattle.kinds.specs.Edition.{edition1, Sized}
 use Rattle.kinds.specs.Frame.{tickBits}
 use Rattle.kinds.specs.First.{firstOf}
-use Rattle.kinds.specs.Reasons.{RightLengths}
+use Rattle.kinds.specs.Lengths.{RightLengths}
 use Rattle.kinds.specs.Refusal.{said}
 use Rattle.kinds.proofs.TruthLaws.{says-yes}
 use Rattle.kinds.proofs.AnswerLaws.{refused-by, done-by}

@@ -16,18 +16,18 @@ use Rattle.span.specs.Scan.{units as unitsAt}
 use Rattle.span.proofs.ScanLaws.{units-length}
 use Rattle.bits.proofs.PaddedLaws.{padded-snoc}
 use Rattle.bits.specs.Padded.{arrayWidth, padded}
-use Rattle.rows.specs.Listed.{keptIn, listed, unitsOf}
+use Rattle.rows.specs.Listed.{keptIn, keptNumbers, unitsOf}
 use Rattle.rows.specs.declared.Listed.{Listed}
 use Rattle.rows.proofs.list_rows.Statement.{statement}
 use Rattle.rows.proofs.list_rows.Tie as tie
 
 module _ (ms : List ℕ) (a : ℕ) (kept : Bool) where
-  listed-none : listed ms a a kept ≡ []
-  unfolding listed those
+  listed-none : keptNumbers ms a a kept ≡ []
+  unfolding keptNumbers those
   listed-none = let none : a - a ≡ 0 = omega arith in rw none
 
-  listed-same : (b i : ℕ) → b - a ≡ i - a → listed ms a b kept ≡ listed ms a i kept
-  unfolding listed
+  listed-same : (b i : ℕ) → b - a ≡ i - a → keptNumbers ms a b kept ≡ keptNumbers ms a i kept
+  unfolding keptNumbers
   listed-same b i e = rw e
 
   module _ {i : ℕ} (from : a ≤ i) where
@@ -37,12 +37,12 @@ module _ (ms : List ℕ) (a : ℕ) (kept : Bool) where
     back : a + (i - a) ≡ i
     back = omega arith
 
-    listed-new : keptIn ms i ≡ kept → listed ms a (i + 1) kept ≡ listed ms a i kept ++ ((i - a) ∷ [])
-    unfolding listed
+    listed-new : keptIn ms i ≡ kept → keptNumbers ms a (i + 1) kept ≡ keptNumbers ms a i kept ++ ((i - a) ∷ [])
+    unfolding keptNumbers
     listed-new e = rw next (those-new (λ j. Bool-discrete (keptIn ms (a + j)) kept) (i - a) (rw back e))
 
-    listed-old : ¬ (keptIn ms i ≡ kept) → listed ms a (i + 1) kept ≡ listed ms a i kept
-    unfolding listed
+    listed-old : ¬ (keptIn ms i ≡ kept) → keptNumbers ms a (i + 1) kept ≡ keptNumbers ms a i kept
+    unfolding keptNumbers
     listed-old n = rw next (those-old (λ j. Bool-discrete (keptIn ms (a + j)) kept) (i - a) (rw back n))
 
 record Listing (ms : List ℕ) (a b : ℕ) (kept : Bool) (end : ℕ) (units : List ℕ) (count i : ℕ) : Type 0 where
@@ -50,8 +50,8 @@ record Listing (ms : List ℕ) (a b : ℕ) (kept : Bool) (end : ℕ) (units : Li
   from : a ≤ i
   to : i - a ≤ end - a
   few : count ≤ i - a
-  counted : count ≡ length (listed ms a i kept)
-  front : units ≡ padded (unitsAt (listed ms a i kept))
+  counted : count ≡ length (keptNumbers ms a i kept)
+  front : units ≡ padded (unitsAt (keptNumbers ms a i kept))
 
 start : (ms : List ℕ) (a b : ℕ) (kept : Bool) {end : ℕ} → end ≡ min b arrayWidth → Listing ms a b kept end (replicate arrayWidth 0) 0 a
 start ms a b kept e =
@@ -63,12 +63,12 @@ module _ {ms : List ℕ} {a b : ℕ} {kept : Bool} {end : ℕ} {units : List ℕ
   says e = rw e (equal-says (keptIn ms i) kept)
 
   module _ (h : i < end) {more : List ℕ} {m : ℕ} where
-    step : m ≤ count + 1 → m ≡ length (listed ms a (i + 1) kept) → more ≡ padded (unitsAt (listed ms a (i + 1) kept)) → Listing ms a b kept end more m (i + 1)
+    step : m ≤ count + 1 → m ≡ length (keptNumbers ms a (i + 1) kept) → more ≡ padded (unitsAt (keptNumbers ms a (i + 1) kept)) → Listing ms a b kept end more m (i + 1)
     step most counted front = record { last = l .last; from = omega arith; to = omega arith; few = omega arith; counted = counted; front = front }
 
     add : {unit : ℕ} → keptIn ms i ≡ kept → unit ≡ 2 ^ (i - a) → more ≡ set units count unit → m ≡ count + 1 → Listing ms a b kept end more m (i + 1)
     add {unit} e u es c =
-        let ps = listed ms a i kept in
+        let ps = keptNumbers ms a i kept in
         let new = listed-new ms a kept (l .from) e in
         let here : count ≡ length (unitsAt ps) = l .counted ∙ sym (units-length ps) in
         step (omega arith) (rw new (omega (arith, length-append ps ((i - a) ∷ []))))
@@ -80,9 +80,9 @@ module _ {ms : List ℕ} {a b : ℕ} {kept : Bool} {end : ℕ} {units : List ℕ
     pass : ¬ (keptIn ms i ≡ kept) → more ≡ units → m ≡ count → Listing ms a b kept end more m (i + 1)
     pass n es c = let old = listed-old ms a kept (l .from) n in step (omega arith) (c ∙ rw old (l .counted)) (es ∙ rw old (l .front))
 
-  done : end ≤ i → _≡_ {A = Listed} (record { units = units; count = count }) (unitsOf (listed ms a (min b arrayWidth) kept))
+  done : end ≤ i → _≡_ {A = Listed} (record { units = units; count = count }) (unitsOf (keptNumbers ms a (min b arrayWidth) kept))
   done past =
-      let all : listed ms a (min b arrayWidth) kept ≡ listed ms a i kept = listed-same ms a kept (min b arrayWidth) i (omega arith) in
+      let all : keptNumbers ms a (min b arrayWidth) kept ≡ keptNumbers ms a i kept = listed-same ms a kept (min b arrayWidth) i (omega arith) in
       rw all (ap₂ (λ (us : List ℕ) (m : ℕ). record { units = us; count = m }) (l .front) (l .counted))
 
 abbrev Inv-loop : tie.InvT-loop

@@ -11,15 +11,16 @@ use lib.Seq.{getD-take, drop-length, drop-cons}
 use Rattle.bits.specs.Padded.{arrayWidth}
 use Rattle.bits.specs.Parity.{dot}
 use Rattle.bits.proofs.ParityLaws.{dot-unit}
-use Rattle.span.specs.Rows.{dots}
-use Rattle.span.proofs.RowLaws.{dots-nil, dots-cons, dots-none, dots-lt}
+use Rattle.span.specs.Rows.{row as rowIn}
+use Rattle.span.proofs.RowLaws.{dots-none, row-nil, row-cons, row-dots, row-lt}
 use Rattle.rows.proofs.row.Statement.{statement}
 use Rattle.rows.proofs.row.Tie as tie
 
 -- beyond the bits that numbers have
-none-there : (numbers : List ℕ) (i : ℕ) → ((j : ℕ) → getD numbers j 0 < 2 ^ 16) → arrayWidth ≤ i → dots (take arrayWidth numbers) (2 ^ i) ≡ 0
+none-there : (numbers : List ℕ) (i : ℕ) → ((j : ℕ) → getD numbers j 0 < 2 ^ 16) → arrayWidth ≤ i → rowIn (take arrayWidth numbers) i ≡ 0
 none-there numbers i below h =
-    dots-none (take arrayWidth numbers) (2 ^ i)
+    row-dots (take arrayWidth numbers) i
+    ∙ dots-none (take arrayWidth numbers) (2 ^ i)
     (λ j inside.
     let number = getD numbers j 0 in
     let here : j < arrayWidth = omega (arith, length-take arrayWidth numbers) in
@@ -30,7 +31,7 @@ none-there numbers i below h =
 record Crossed (numbers : List ℕ) (i row j : ℕ) : Type 0 where
   narrow : i < arrayWidth
   within : j ≤ length (take arrayWidth numbers)
-  so-far : row ≡ dots (drop j (take arrayWidth numbers)) (2 ^ i)
+  so-far : row ≡ rowIn (drop j (take arrayWidth numbers)) i
 
 start : {numbers : List ℕ} {i end : ℕ} → i < arrayWidth → end ≡ min (length numbers) arrayWidth → Crossed numbers i 0 end
 start {numbers} {i} {end} narrow e =
@@ -39,7 +40,7 @@ start {numbers} {i} {end} narrow e =
     record {
       narrow = narrow;
       within = omega arith;
-      so-far = sym (ap (λ (l : List ℕ). dots l (2 ^ i)) (ap (λ (m : ℕ). drop m taken) all ∙ drop-length taken) ∙ dots-nil (2 ^ i));
+      so-far = sym (ap (λ (l : List ℕ). rowIn l i) (ap (λ (m : ℕ). drop m taken) all ∙ drop-length taken) ∙ row-nil i);
     }
 
 module _ {numbers : List ℕ} {i row j : ℕ} (r : Crossed numbers i row j) where
@@ -55,7 +56,7 @@ module _ {numbers : List ℕ} {i row j : ℕ} (r : Crossed numbers i row j) wher
   fits : row < 2 ^ 16
   fits =
       let rest : length (drop j taken) ≤ 16 = omega (arith, length-drop j taken, few) in
-      omega (arith, r .so-far, dots-lt (drop j taken) (2 ^ i), pow-mono rest)
+      omega (arith, r .so-far, row-lt (drop j taken) i, pow-mono rest)
 
   more : 0 < j → Crossed numbers i (2 * row + getD numbers (j - 1) 0 / 2 ^ i % 2) (j - 1)
   more h =
@@ -66,10 +67,10 @@ module _ {numbers : List ℕ} {i row j : ℕ} (r : Crossed numbers i row j) wher
       record {
         narrow = r .narrow;
         within = omega (arith, r .within);
-        so-far = sym (ap (λ (l : List ℕ). dots l (2 ^ i)) here ∙ omega (arith, r .so-far, dots-cons last (drop j taken) (2 ^ i), dot-unit i last));
+        so-far = sym (ap (λ (l : List ℕ). rowIn l i) here ∙ omega (arith, r .so-far, row-cons last (drop j taken) i));
       }
 
-  done : j ≤ 0 → row ≡ dots taken (2 ^ i)
+  done : j ≤ 0 → row ≡ rowIn taken i
   done end = let none : j ≡ 0 = omega arith in rw none at (r .so-far)
 
 abbrev Inv-loop : tie.InvT-loop

@@ -1,12 +1,12 @@
 -- `rows::rows_of` meets its contract. The invariant: the first i rows stand in the array.
-use Prim.Native.Nat.{ℕ, _+_, _-_, _^_, _≤_, _<_, min}
+use Prim.Native.Nat.{ℕ, _+_, _-_, _≤_, _<_, min}
 use mathlib.Core.Path.{_≡_, sym, _∙_}
 use mathlib.Core.List.{List}
 use native.Mathlib.Omega.{arith}
 use borrow.Author.Needs.{needs}
 use lib.ListN.{length, take, set, replicate}
-use Rattle.span.specs.Rows.{dots, rows as rowsIn}
-use Rattle.span.proofs.RowLaws.{rows-length, rows-at}
+use Rattle.span.specs.Rows.{row as rowIn, rows as rowsIn}
+use Rattle.span.proofs.RowLaws.{rows-length, rows-row}
 use Rattle.bits.proofs.FillLaws.{Filled, fill-none, fill-more, fill-all}
 use Rattle.bits.specs.Padded.{arrayWidth, padded}
 use Rattle.rows.proofs.rows_of.Statement.{statement}
@@ -26,10 +26,10 @@ module _ {columns : List ℕ} {count end : ℕ} {rows : List ℕ} {i : ℕ} (f :
   size : length all ≡ min count arrayWidth
   size = rows-length (min count arrayWidth) (take arrayWidth columns)
 
-  more : {row : ℕ} → i < end → row ≡ dots (take arrayWidth columns) (2 ^ i) → Rowed columns count end (set rows i row) (i + 1)
+  more : {row : ℕ} → i < end → row ≡ rowIn (take arrayWidth columns) i → Rowed columns count end (set rows i row) (i + 1)
   more h e = record {
     last = f .last;
-    filled = fill-more (f .filled) (omega (arith, size, f .last)) (e ∙ sym (rows-at (min count arrayWidth) (take arrayWidth columns) i (omega (arith, f .last))));
+    filled = fill-more (f .filled) (omega (arith, size, f .last)) (e ∙ sym (rows-row (min count arrayWidth) (take arrayWidth columns) i (omega (arith, f .last))));
   }
 
   done : end ≤ i → rows ≡ padded all

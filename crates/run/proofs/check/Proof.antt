@@ -11,7 +11,7 @@ use Rattle.kinds.specs.Answers.{Says}
 use Rattle.kinds.specs.Edition.{edition1, Sized}
 use Rattle.kinds.specs.Frame.{ticks}
 use Rattle.kinds.specs.First.{Reason, firstOf}
-use Rattle.kinds.specs.Reasons.{RightLengths}
+use Rattle.kinds.specs.Lengths.{Wanted, RightLengths}
 use Rattle.kinds.specs.Refusal.{said}
 use Rattle.kinds.specs.declared.Answer.the-variants.{Done}
 use Rattle.kinds.specs.declared.Refusal.the-variants.{State as Impossible}
@@ -22,17 +22,18 @@ use Rattle.sheet.specs.Table.{sheetTable}
 use Rattle.sheet.proofs.TableLaws.{sheet-sound}
 use Rattle.maps.specs.Opened.{unopened, Opens}
 use Rattle.maps.specs.declared.Opened.{Opened}
-use Rattle.state.specs.States.{Possible, impossible}
+use Rattle.state.specs.States.{Possible}
+use Rattle.state.specs.Table.{impossible}
 use Rattle.state.specs.declared.State.{State}
-use Rattle.call.specs.Tool.{runLengths}
+use Rattle.call.specs.Tool.{Lengths, runLengths}
 use Rattle.run.specs.Tool.{ChecksRun}
 use Rattle.run.proofs.check.Statement.{statement}
 use Rattle.run.proofs.check.Tie as tie
 
-module _ (n k : ℕ) (s : List ℕ) (st : State) (came out words marks : ℕ) (fits : Bool) (o : Opened)
-    (right : Says fits (RightLengths (runLengths n k came out words marks))) (opens : Opens edition1 n k s fits o) where
-  abbrev lengths : List (ℕ × ℕ)
-  lengths = runLengths n k came out words marks
+module _ (n k : ℕ) (s : List ℕ) (st : State) (l : Lengths) (fits : Bool) (o : Opened)
+    (right : Says fits (RightLengths (runLengths n k l))) (opens : Opens edition1 n k s fits o) where
+  abbrev lengths : List (ℕ × Wanted)
+  lengths = runLengths n k l
 
   abbrev table : List Reason
   table = sheetTable edition1 n k s lengths
@@ -40,10 +41,10 @@ module _ (n k : ℕ) (s : List ℕ) (st : State) (came out words marks : ℕ) (f
   given : said (o .answer) ≡ firstOf table
   given = opens .answer lengths right
 
-  opened : said (o .answer) ≡ firstOf (table ++ impossible (ticks n k) st ∷ []) → ChecksRun edition1 n k s st came out words marks o
+  opened : said (o .answer) ≡ firstOf (table ++ impossible (ticks n k) st ∷ []) → ChecksRun edition1 n k s st l o
   opened answer = record { answer = answer; write = opens .write; read = opens .read; refused = opens .refused }
 
-  checks-refused : ¬ (o .answer ≡ Done) → ChecksRun edition1 n k s st came out words marks o
+  checks-refused : ¬ (o .answer ≡ Done) → ChecksRun edition1 n k s st l o
   checks-refused refuses = opened (said-before table _ (o .answer) refuses given)
 
   module _ (done : o .answer ≡ Done) where
@@ -56,7 +57,7 @@ module _ (n k : ℕ) (s : List ℕ) (st : State) (came out words marks : ℕ) (f
     left : firstOf (table ++ impossible (ticks n k) st ∷ []) ≡ firstOf (impossible (ticks n k) st ∷ [])
     left = first-append table _ (first-none table .0 none-given)
 
-    checks-impossible : {r : Opened} → ¬ Possible (ticks n k) st → r ≡ unopened Impossible → ChecksRun edition1 n k s st came out words marks r
+    checks-impossible : {r : Opened} → ¬ Possible (ticks n k) st → r ≡ unopened Impossible → ChecksRun edition1 n k s st l r
     checks-impossible not e =
         rw e (record {
           answer = sym (left ∙ first-take _ _ not);
@@ -65,7 +66,7 @@ module _ (n k : ℕ) (s : List ℕ) (st : State) (came out words marks : ℕ) (f
           refused = λ x f. (refl, refl);
         })
 
-    checks-done : Possible (ticks n k) st → ChecksRun edition1 n k s st came out words marks o
+    checks-done : Possible (ticks n k) st → ChecksRun edition1 n k s st l o
     checks-done possible = opened (ap said done ∙ sym (left ∙ first-skip _ _ (λ not. not possible) ∙ first-nil))
 
 lengths-fit-requires : tie.Need-lengths-fit-requires
@@ -81,11 +82,14 @@ module _ (c : tie.After-open) where
   abbrev start : tie.Start
   start = c .before .before .before
 
+  abbrev lent : Lengths
+  lent = record { came = start .args .came; out = start .args .out; words = start .args .words; marks = start .args .marks }
+
 returns : tie.Need-returns
 returns c =
     let opened = c .before .before in
     let args = start opened .args in
-    checks-refused (args .n) (args .k) (args .sheet .now) (args .state) (args .came) (args .out) (args .words) (args .marks) _ (opened .«open» .result)
+    checks-refused (args .n) (args .k) (args .sheet .now) (args .state) (lent opened) _ (opened .«open» .result)
     (opened .before .lengths-fit .ensures) (opened .«open» .ensures) (denied (c .before .is-done .ensures) (not-true _ (c .if1 .taken)))
 
 module _ (c : tie.Else1) where
@@ -98,7 +102,7 @@ module _ (c : tie.Else1) where
   sizes : Sized edition1 (start at .args .n) (start at .args .k)
   sizes =
       let args = start at .args in
-      sized (args .n) (args .k) (args .sheet .now) (args .state) (args .came) (args .out) (args .words) (args .marks) _ (at .«open» .result)
+      sized (args .n) (args .k) (args .sheet .now) (args .state) (lent at) _ (at .«open» .result)
       (at .before .lengths-fit .ensures) (at .«open» .ensures) done
 
 sub-two-to : tie.Need-sub-two-to
@@ -123,7 +127,7 @@ returns-2 c =
     let passed = tested .before .before in
     let opened = at passed in
     let args = start opened .args in
-    checks-impossible (args .n) (args .k) (args .sheet .now) (args .state) (args .came) (args .out) (args .words) (args .marks) _ (opened .«open» .result)
+    checks-impossible (args .n) (args .k) (args .sheet .now) (args .state) (lent opened) _ (opened .«open» .result)
     (opened .before .lengths-fit .ensures) (opened .«open» .ensures) (done passed)
     (rw (frame-ticks (tested .before)) at (denied (tested .possible .ensures) (not-true _ (c .before .if2 .taken)))) (c .refused .ensures)
 
@@ -133,7 +137,7 @@ returns-3 c =
     let passed = tested .before .before in
     let opened = at passed in
     let args = start opened .args in
-    checks-done (args .n) (args .k) (args .sheet .now) (args .state) (args .came) (args .out) (args .words) (args .marks) _ (opened .«open» .result)
+    checks-done (args .n) (args .k) (args .sheet .now) (args .state) (lent opened) _ (opened .«open» .result)
     (opened .before .lengths-fit .ensures) (opened .«open» .ensures) (done passed)
     (rw (frame-ticks (tested .before)) at (tested .possible .ensures .0 (not-false _ (c .if2 .left))))
 

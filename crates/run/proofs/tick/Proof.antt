@@ -4,7 +4,6 @@ use mathlib.Core.Path.{_≡_, sym, ap, _∙_}
 use mathlib.Core.List.{List}
 use mathlib.Core.Option.{none}
 use borrow.Author.Needs.{needs}
-use lib.ListN.{length}
 use Rattle.kinds.specs.Edition.{edition1}
 use Rattle.kinds.specs.First.{firstOf}
 use Rattle.kinds.specs.Refusal.{said}
@@ -12,34 +11,36 @@ use Rattle.kinds.specs.declared.Answer.the-variants as Answer
 use Rattle.sheet.specs.Sheet.{writeSide, readSide}
 use Rattle.switches.specs.Cells.{M, N}
 use Rattle.maps.specs.declared.Opened.{Opened}
-use Rattle.state.specs.declared.State.{State}
-use Rattle.memory.specs.Memory.{Memory}
-use Rattle.call.specs.Tool.{Calls}
-use Rattle.call.specs.declared.Ticked.{Ticked}
+use Rattle.call.specs.Tool.{Lent, lengthsOf, Calls}
+use Rattle.call.specs.declared.RunAnswer.{RunAnswer}
 use Rattle.call.proofs.ToolLaws.{comes-past, comes-checked}
-use Rattle.run.specs.Tool.{beforeFaults, ChecksRun, Ticks}
+use Rattle.run.specs.Tool.{beforeFaults, ChecksRun, Runs}
 use Rattle.run.proofs.TableLaws.{check-sound}
 use Rattle.run.proofs.tick.Statement.{statement}
 use Rattle.run.proofs.tick.Tie as tie
 
-module _ (n k : ℕ) (s : List ℕ) (st : State) (ws : List ℕ) (m : Memory) (out : List ℕ) (r : Opened)
-    (checks : ChecksRun edition1 n k s st (length ws) (length out) (length (m .words)) (length (m .marks)) r) (done : r .answer ≡ Answer.Done) where
-  none-given : firstOf (beforeFaults edition1 n k s st ws m out) ≡ none
+module _ (n k : ℕ) (s : List ℕ) (b : Lent) (r : Opened) (checks : ChecksRun edition1 n k s (b .state) (lengthsOf b) r) (done : r .answer ≡ Answer.Done) where
+  none-given : firstOf (beforeFaults edition1 n k s b) ≡ none
   none-given = sym (checks .answer) ∙ ap said done
 
-  ticks-by : {a : Ticked} {words marks out' : List ℕ} → Calls edition1 n k (r .write) (r .read) st ws m out a (record { words = words; marks = marks }) out'
-      → Ticks edition1 n k s st ws m out a (record { words = words; marks = marks }) out'
+  ticks-by : {a : RunAnswer} {words marks out : List ℕ} → Calls edition1 n k (r .write) (r .read) b (record { answer = a; memory = record { words = words; marks = marks }; out = out })
+      → Runs edition1 n k s b (record { answer = a; memory = record { words = words; marks = marks }; out = out })
   ticks-by calls =
-      let (_, sound) = check-sound edition1 n k s st (length ws) (length out) (length (m .words)) (length (m .marks)) none-given in
-      comes-past (beforeFaults edition1 n k s st ws m out) n k (M edition1 n k s) (N edition1 n k s) st ws m out _ none-given sound
+      let (_, sound) = check-sound edition1 n k s (b .state) (lengthsOf b) none-given in
+      comes-past (beforeFaults edition1 n k s b) n k (M edition1 n k s) (N edition1 n k s) b _ none-given sound
       (calls .over (writeSide edition1 n k s) (readSide edition1 n k s) (checks .write done) (checks .read done))
 
 module _ (c : tie.After-check) where
   abbrev start : tie.Start
   start = c .before .before .before .before .before .before
 
-  abbrev m : Memory
-  m = record { words = start .args .words .now; marks = start .args .marks .now }
+  abbrev lent : Lent
+  lent = record {
+    state = start .args .state;
+    came = start .args .came .now;
+    memory = record { words = start .args .words .now; marks = start .args .marks .now };
+    out = start .args .out .now;
+  }
 
 check-requires : tie.Need-check-requires
 check-requires c κs = search needs
@@ -51,9 +52,8 @@ returns : tie.Need-returns
 returns c =
     let begun = c .before .before .before in
     let args = start begun .args in
-    comes-checked (beforeFaults edition1 (args .n) (args .k) (args .sheet .now) (args .state) (args .came .now) (m begun) (args .out .now))
-    (args .n) (args .k) (M edition1 (args .n) (args .k) (args .sheet .now)) (N edition1 (args .n) (args .k) (args .sheet .now)) (args .state) (args .came .now) (m begun) (args .out .now)
-    (begun .check .result .answer) (begun .check .ensures .answer) (c .before .checked .given .1)
+    comes-checked (beforeFaults edition1 (args .n) (args .k) (args .sheet .now) (lent begun)) (args .n) (args .k) (M edition1 (args .n) (args .k) (args .sheet .now))
+    (N edition1 (args .n) (args .k) (args .sheet .now)) (lent begun) (begun .check .result .answer) (begun .check .ensures .answer) (c .before .checked .given .1)
 
 enum-told : tie.Need-enum-told
 enum-told c = search needs
@@ -76,7 +76,7 @@ returns-2 c =
     let told = called .before .before .before .before in
     let begun = told .before .before in
     let args = start begun .args in
-    ticks-by (args .n) (args .k) (args .sheet .now) (args .state) (args .came .now) (m begun) (args .out .now) (begun .check .result) (begun .check .ensures) (told .enum-told .given .1)
+    ticks-by (args .n) (args .k) (args .sheet .now) (lent begun) (begun .check .result) (begun .check .ensures) (told .enum-told .given .1)
     (called .call .ensures)
 
 pub tick-spec : {M : Type 1} → statement M

@@ -8,7 +8,7 @@ use borrow.Author.Needs.{needs}
 use borrow.Author.Tests.{not-true, not-false}
 use lib.ListN.{length, length-take, length-drop}
 use Rattle.kinds.specs.Edition.{edition1, Sized, sheetPlaces}
-use Rattle.kinds.specs.Reasons.{RightLengths}
+use Rattle.kinds.specs.Lengths.{Wanted, RightLengths}
 use Rattle.kinds.specs.Answers.{Says, Checks}
 use Rattle.kinds.specs.declared.Answer.{Answer}
 use Rattle.kinds.specs.declared.Answer.the-variants.{Done, Refused}
@@ -40,7 +40,7 @@ module _ (c : tie.Start) where
   outside-sizes out others f = sym (first-take _ _ out)
 
   module _ (sized : Sized edition1 n k) where
-    wrong-length : ((others : List (ℕ × ℕ)) → Says (c .args .fits) (RightLengths others) → ¬ RightLengths (sheetLengths edition1 s ++ others))
+    wrong-length : ((others : List (ℕ × Wanted)) → Says (c .args .fits) (RightLengths others) → ¬ RightLengths (sheetLengths edition1 s ++ others))
         → Answered (Refused Length)
     wrong-length wrong others f = sym (first-skip _ _ (λ out. out sized) ∙ first-take _ _ (wrong others f))
 

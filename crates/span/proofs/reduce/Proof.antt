@@ -11,14 +11,14 @@ use lib.Bits.{bitXor, xor-self, xor-zero-r}
 use lib.Count.{leadingZeros}
 use lib.ListN.{getD}
 use Rattle.bits.proofs.XorLaws.{xor-assoc}
-use Rattle.span.specs.Held.{width, Made, Echelon, Reduces}
+use Rattle.span.specs.Held.{width, MadeOf, Echelon, Reduces}
 use Rattle.span.proofs.HeldLaws.{made-zero, made-xor, row-high, row-place, entry-falls}
 use Rattle.span.proofs.reduce.Statement.{statement}
 use Rattle.span.proofs.reduce.Tie as tie
 
 record Reducing (es : List ℕ) (e left : ℕ) : Type 0 where
   fits : left < 2 ^ (width + width)
-  made : (vs : List ℕ) → Echelon es vs → Made vs (bitXor e left)
+  made : (vs : List ℕ) → Echelon es vs → MadeOf vs (bitXor e left)
 
 start : {es : List ℕ} {e : ℕ} → e < 2 ^ (width + width) → Reducing es e e
 start {e = e} fits = record { fits = fits; made = λ vs h. rw (xor-self e) (made-zero vs) }

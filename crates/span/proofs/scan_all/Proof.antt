@@ -18,9 +18,10 @@ use Rattle.kinds.specs.Answers.{Says}
 use Rattle.kinds.proofs.TruthLaws.{false≢true, says-no}
 use Rattle.bits.specs.Image.{AllBelow}
 use Rattle.bits.proofs.ImageLaws.{zeros-at}
-use Rattle.span.specs.Scan.{IsKept, mask, masks}
+use Rattle.span.specs.Scan.{mask, masks}
+use Rattle.span.proofs.ScanLaws.{IsKept}
 use Rattle.span.specs.Held.{width, Echelon, Reduces}
-use Rattle.span.specs.Tools.{room, Scans}
+use Rattle.span.specs.Tools.{mostScanned, Scans}
 use Rattle.span.proofs.StepLaws.{Stepped, step-old, step-new}
 use Rattle.span.proofs.SumLaws.{independent-width}
 use Rattle.span.proofs.MaskLaws.{masks-at, masks-length}
@@ -31,33 +32,33 @@ use Rattle.span.proofs.scan_all.Tie as tie
 
 -- there is room for the numbers vs, and the first j were kept
 abbrev AllKept : List ℕ → ℕ → Type 0
-AllKept vs j = (length vs ≤ room) × ((i : ℕ) → i < j → IsKept (take room vs) i)
+AllKept vs j = (length vs ≤ mostScanned) × ((i : ℕ) → i < j → IsKept (take mostScanned vs) i)
 
 record Scanning (vs es ms : List ℕ) (b : Bool) (j : ℕ) : Type 0 where
-  within : j ≤ length (take room vs)
-  echelon : Echelon es (take j (take room vs))
-  places : length ms ≡ room
-  masked : (i : ℕ) → i < j → getD ms i 0 ≡ mask (take room vs) i
+  within : j ≤ length (take mostScanned vs)
+  echelon : Echelon es (take j (take mostScanned vs))
+  places : length ms ≡ mostScanned
+  masked : (i : ℕ) → i < j → getD ms i 0 ≡ mask (take mostScanned vs) i
   rest : (i : ℕ) → j ≤ i → getD ms i 0 ≡ 0
   says : Says b (AllKept vs j)
 
-start : (vs : List ℕ) {b : Bool} → Says b (length vs ≤ room) → Scanning vs (replicate width 0) (replicate room 0) b 0
+start : (vs : List ℕ) {b : Bool} → Says b (length vs ≤ mostScanned) → Scanning vs (replicate width 0) (replicate mostScanned 0) b 0
 start vs says = record {
   within = omega arith;
   echelon = echelon-none;
   places = refl;
-  masked = below-none (λ i. getD (replicate room 0) i 0 ≡ mask (take room vs) i);
-  rest = λ i h. zeros-at room i;
-  says = (λ e. (says .0 e, below-none (IsKept (take room vs))), λ all. says .1 (all .0));
+  masked = below-none (λ i. getD (replicate mostScanned 0) i 0 ≡ mask (take mostScanned vs) i);
+  rest = λ i h. zeros-at mostScanned i;
+  says = (λ e. (says .0 e, below-none (IsKept (take mostScanned vs))), λ all. says .1 (all .0));
 }
 
 module _ {vs es ms : List ℕ} {b : Bool} {j : ℕ} (i : Scanning vs es ms b j) where
   abbrev first : List ℕ
-  first = take room vs
+  first = take mostScanned vs
 
   module _ (inside : j < length first) where
     small : j < length ms
-    small = omega (arith, i .places, length-take room vs)
+    small = omega (arith, i .places, length-take mostScanned vs)
 
     more : {es' : List ℕ} {k c : Bool} {m : ℕ} → Stepped first j es' k m → Says c (AllKept vs (j + 1)) → Scanning vs es' (set ms j m) c (j + 1)
     more {m = m} step says = record {
@@ -89,10 +90,10 @@ module _ {vs es ms : List ℕ} {b : Bool} {j : ℕ} (i : Scanning vs es ms b j) 
     says = (
       λ e.
           let (few, all) = i .says .0 e in
-          rw (take-all room vs few) at (all-kept-independent first (λ l h. all l (omega arith))),
+          rw (take-all mostScanned vs few) at (all-kept-independent first (λ l h. all l (omega arith))),
       λ independent.
           let few = independent-width width vs narrow independent in
-          i .says .1 (few, λ l h. rw (take-all room vs few) (independent-all-kept vs independent l (omega (arith, i .within, length-take room vs)))),
+          i .says .1 (few, λ l h. rw (take-all mostScanned vs few) (independent-all-kept vs independent l (omega (arith, i .within, length-take mostScanned vs)))),
     );
   }
 
@@ -133,19 +134,19 @@ module _ (c : tie.After-reduce Inv-loop μ-loop) where
   abbrev es : List ℕ
   es = c .before .before .before .before .loop .entries
 
-  low : j < room
+  low : j < mostScanned
   low = omega (arith, c .before .before .before .loop-test .taken, c .before .before .before .before .before .at-most-16 .ensures)
 
-  inside : j < length (take room numbers)
-  inside = omega (arith, length-take room numbers, c .before .before .before .loop-test .taken, c .before .before .before .before .before .at-most-16 .ensures)
+  inside : j < length (take mostScanned numbers)
+  inside = omega (arith, length-take mostScanned numbers, c .before .before .before .loop-test .taken, c .before .before .before .before .before .at-most-16 .ensures)
 
-  number : getD (take room numbers) j 0 ≡ getD numbers j 0
-  number = getD-take room numbers j 0 low
+  number : getD (take mostScanned numbers) j 0 ≡ getD numbers j 0
+  number = getD-take mostScanned numbers j 0 low
 
-  fits : getD (take room numbers) j 0 < 2 ^ width
+  fits : getD (take mostScanned numbers) j 0 < 2 ^ width
   fits = rw number (c .before .before .shared-slice-known2 .given j .fits)
 
-  reduced : Reduces es (getD (take room numbers) j 0 * 2 ^ width) (c .reduce .result)
+  reduced : Reduces es (getD (take mostScanned numbers) j 0 * 2 ^ width) (c .reduce .result)
   reduced = rw number (c .reduce .ensures)
 
 cast-two-to : tie.Need-cast-two-to Inv-loop μ-loop
@@ -200,14 +201,14 @@ loop-again c =
     ⊎-elim (λ w.
     rw (w .2, w .3, w .4)
     (keeps inv (inside at)
-    (step-new (take room (numbers at)) (j at) (inside at) (fits at) (inv .echelon) (reduced at) (omega (arith, at .reduce .ok)) (w .0 .taken) (low at) (w .1 .ensures .fits (omega (arith, low at))))))
+    (step-new (take mostScanned (numbers at)) (j at) (inside at) (fits at) (inv .echelon) (reduced at) (omega (arith, at .reduce .ok)) (w .0 .taken) (low at) (w .1 .ensures .fits (omega (arith, low at))))))
     (λ w.
     rw (w .1, w .2, w .3)
-    (passes inv (inside at) (step-old (take room (numbers at)) (j at) (inside at) (fits at) (inv .echelon) (reduced at) (w .0 .left))))
+    (passes inv (inside at) (step-old (take mostScanned (numbers at)) (j at) (inside at) (fits at) (inv .echelon) (reduced at) (w .0 .left))))
     (c .if1 .came)
 
 returns : tie.Need-returns Inv-loop μ-loop
-returns c = done (c .before .loop .inv) (λ l h. c .before .before .before .shared-slice-known .given l .fits) (omega (arith, c .loop-test .left, c .before .before .at-most-16 .ensures, length-take room (c .before .before .before .before .args .numbers .now)))
+returns c = done (c .before .loop .inv) (λ l h. c .before .before .before .shared-slice-known .given l .fits) (omega (arith, c .loop-test .left, c .before .before .at-most-16 .ensures, length-take mostScanned (c .before .before .before .before .args .numbers .now)))
 
 pub scan-all-spec : {M : Type 1} → statement M
 scan-all-spec =

@@ -14,11 +14,11 @@ use Rattle.kinds.proofs.FrameLaws.{in-order-length, in-order-is}
 use Rattle.kinds.specs.Answers.{onto}
 use Rattle.state.specs.declared.State.{State}
 use Rattle.call.specs.Tool.{stateAfter}
-use Rattle.call.specs.declared.Ticked.{Ticked}
-use Rattle.run.specs.Tool.{Ticks}
+use Rattle.call.specs.declared.RunAnswer.{RunAnswer}
+use Rattle.run.specs.Tool.{Runs}
 use Rattle.promise.proofs.OneFrame.{blank-call}
-use Rattle.trial.specs.Inside.{leavesIn, handedOut, Leaving}
-use Rattle.trial.proofs.CallLaws.{tick-leaves}
+use Rattle.trial.specs.Inside.{leavesIn, frameHanded, Leaving}
+use Rattle.trial.proofs.CallLaws.{lent, tick-leaves}
 use Rattle.trial.proofs.PassingLaws.{Passing, passing-start, passing-left, passing-fits, passing-more}
 use Rattle.trial.proofs.PartLaws.{before-part, in-part}
 use Rattle.trial.proofs.hand_out.Statement.{statement}
@@ -73,7 +73,7 @@ module _ {n k ports at : ℕ} {s f₀ ws₀ ms₀ f ws ms : List ℕ} {st : Stat
         ∙ in-part at f tick _ (omega arith) (omega (arith, tick-length))
         ∙ sym (ap₂ (λ (c x : ℕ). getD (leavesIn n k s (ticks n k + c)) x 0) (ap (tickOf k) word ∙ high (p .calls) k port) (ap (portOf k) word ∙ low (p .calls) k port))
 
-    more : {left ws' ms' : List ℕ} {st' : State} {a : Ticked} → Ticks edition1 n k s st [] (record { words = ws; marks = ms }) part a (record { words = ws'; marks = ms' }) left
+    more : {left ws' ms' : List ℕ} {st' : State} {a : RunAnswer} → Runs edition1 n k s (lent st [] ws ms part) (record { answer = a; memory = record { words = ws'; marks = ms' }; out = left })
         → st' ≡ stateAfter st a → length (with left) ≡ length f → length ws' ≡ length ws → length ms' ≡ length ms
         → Handing n k s f₀ ws₀ ms₀ (with left) ws' ms' ports st' (at + ports)
     more {left} goes after o w m =
@@ -87,7 +87,7 @@ module _ {n k ports at : ℕ} {s f₀ ws₀ ms₀ f ws ms : List ℕ} {st : Stat
           kept = (o ∙ i .kept .0, w ∙ i .kept .1, m ∙ i .kept .2);
         }
 
-  done : length f ≤ at → f ≡ handedOut n k s
+  done : length f ≤ at → f ≡ frameHanded n k s
   done end = in-order-is (2 ^ n) (wordLeft n k s) 0 f (i .passing .frame) (λ q l. i .each q (omega (arith, i .passing .frame)))
 
 abbrev Inv-loop : tie.InvT-loop
@@ -143,9 +143,9 @@ loop-less c =
 
 loop-again : tie.Need-loop-again Inv-loop μ-loop
 loop-again c =
-    let ticked = c .before .before .before .before .before .before .before in
-    let test = ticked .before .before .before .before .before .before in
-    more (test .before .loop .inv) (omega (arith, test .loop-test .taken)) (ticked .tick .ensures) (c .after .ensures)
+    let called = c .before .before .before .before .before .before .before in
+    let test = called .before .before .before .before .before .before in
+    more (test .before .loop .inv) (omega (arith, test .loop-test .taken)) (called .tick .ensures) (c .after .ensures)
     (c .before .before .before .before .before .before .frame .given .1) (c .before .before .before .before .words .given) (c .before .before .marks .given)
 
 same-length : tie.Need-same-length Inv-loop μ-loop

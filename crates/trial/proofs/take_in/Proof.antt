@@ -12,12 +12,13 @@ use Rattle.kinds.specs.Frame.{ticks, inOrder}
 use Rattle.kinds.proofs.FrameLaws.{in-order-length}
 use Rattle.state.specs.declared.State.{State}
 use Rattle.call.specs.Tool.{stateAfter}
-use Rattle.call.specs.declared.Ticked.{Ticked}
-use Rattle.run.specs.Tool.{Ticks}
-use Rattle.promise.specs.Series.{callAt, standing}
+use Rattle.call.specs.declared.RunAnswer.{RunAnswer}
+use Rattle.run.specs.Tool.{Runs}
+use Rattle.promise.specs.Series.{callAt}
+use Rattle.promise.specs.Run.{standing}
 use Rattle.trial.specs.Trial.{trialCalls}
 use Rattle.trial.specs.Inside.{Entering}
-use Rattle.trial.proofs.CallLaws.{part-comes}
+use Rattle.trial.proofs.CallLaws.{lent, part-comes}
 use Rattle.trial.proofs.PassingLaws.{Passing, passing-start, passing-left, passing-fits, passing-more, passing-done}
 use Rattle.trial.proofs.take_in.Statement.{statement}
 use Rattle.trial.proofs.take_in.Tie as tie
@@ -39,8 +40,8 @@ start {n} entering idle =
       kept = (refl, refl, refl);
     }
 
-more : {n k ports at : ℕ} {s f out₀ ws₀ ms₀ out ws ms out' ws' ms' : List ℕ} {st st' : State} {a : Ticked} → Taking n k s f out₀ ws₀ ms₀ out ws ms ports st at → at < length f
-    → Ticks edition1 n k s st (take (at + ports - at) (drop at f)) (record { words = ws; marks = ms }) out a (record { words = ws'; marks = ms' }) out' → st' ≡ stateAfter st a
+more : {n k ports at : ℕ} {s f out₀ ws₀ ms₀ out ws ms out' ws' ms' : List ℕ} {st st' : State} {a : RunAnswer} → Taking n k s f out₀ ws₀ ms₀ out ws ms ports st at → at < length f
+    → Runs edition1 n k s (lent st (take (at + ports - at) (drop at f)) ws ms out) (record { answer = a; memory = record { words = ws'; marks = ms' }; out = out' }) → st' ≡ stateAfter st a
     → length out' ≡ length out → length ws' ≡ length ws → length ms' ≡ length ms → Taking n k s f out₀ ws₀ ms₀ out' ws' ms' ports st' (at + ports)
 more {n} {k} t h goes after o w m =
     let p = t .passing in
@@ -96,9 +97,9 @@ loop-less c =
 
 loop-again : tie.Need-loop-again Inv-loop μ-loop
 loop-again c =
-    let ticked = c .before .before .before .before .before .before .before in
-    let test = ticked .before .before .before .before .before in
-    more (test .before .loop .inv) (omega (arith, test .loop-test .taken)) (ticked .tick .ensures) (c .after .ensures)
+    let called = c .before .before .before .before .before .before .before in
+    let test = called .before .before .before .before .before in
+    more (test .before .loop .inv) (omega (arith, test .loop-test .taken)) (called .tick .ensures) (c .after .ensures)
     (c .before .before .before .before .before .before .out .given) (c .before .before .before .before .words .given) (c .before .before .marks .given)
 
 same-length : tie.Need-same-length Inv-loop μ-loop

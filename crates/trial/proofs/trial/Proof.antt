@@ -8,10 +8,11 @@ use borrow.Author.Needs.{needs}
 use borrow.Author.Tests.{not-true, not-false}
 use lib.ListN.{length}
 use lib.Pow.{pow-mono}
-use Rattle.kinds.specs.Edition.{edition1, Sized, sized?}
+use Rattle.kinds.specs.Edition.{edition1, Sized}
+use Rattle.kinds.specs.Decisions.{sized?}
 use Rattle.kinds.specs.Frame.{inOrder}
 use Rattle.kinds.specs.First.{firstOf}
-use Rattle.kinds.specs.Reasons.{RightLengths}
+use Rattle.kinds.specs.Lengths.{Wanted, exactly, RightLengths}
 use Rattle.kinds.specs.Refusal.{said}
 use Rattle.kinds.specs.declared.Answer.the-variants.{Done}
 use Rattle.kinds.proofs.TruthLaws.{denied}
@@ -55,8 +56,8 @@ module _ (c : tie.After-is-done) where
   abbrev frame : List ℕ
   frame = start .args .frame .now
 
-  abbrev lengths : List (ℕ × ℕ)
-  lengths = sheetLengths edition1 sheet ++ (length frame, 2 ^ n) ∷ []
+  abbrev lengths : List (ℕ × Wanted)
+  lengths = sheetLengths edition1 sheet ++ (length frame, exactly (2 ^ n)) ∷ []
 
   says : said (c .before .check-with-k .result) ≡ firstOf (trialTable edition1 n k C sheet frame)
   says = c .before .check-with-k .ensures lengths (c .before .before .lent-right .ensures)

@@ -19,6 +19,7 @@ use Rattle.kinds.proofs.TruthLaws.{denied}
 use Rattle.kinds.proofs.FrameLaws.{in-order-is}
 use Rattle.kinds.proofs.FirstLaws.{first-take, first-none}
 use Rattle.kinds.proofs.AnswerLaws.{not-both, refuses, does}
+use Rattle.kinds.specs.Lengths.{exactly}
 use Rattle.bits.proofs.ImageLaws.{image-zero}
 use Rattle.switches.specs.Cells.{cellAt}
 use Rattle.maps.specs.Opened.{IsCell, ListsCells}
@@ -32,7 +33,7 @@ use Rattle.maps.proofs.OpenSide.cells.Tie as tie
 wrong : (o : OpenSide) (c : ℕ) (out : List ℕ) → ¬ (length out ≡ 2 ^ o .k) → ListsCells o c out out (Refused Length)
 wrong o c out differs n k S h =
     refuses (λ e. not-both e refl)
-    (sym (first-take (wrongLength ((length out, 2 ^ k) ∷ [])) [] (λ right. differs (right .0 ∙ ap (λ (x : ℕ). 2 ^ x) (sym (shown-k h))))))
+    (sym (first-take (wrongLength ((length out, exactly (2 ^ k)) ∷ [])) [] (λ right. differs (right .0 ∙ ap (λ (x : ℕ). 2 ^ x) (sym (shown-k h))))))
     refl
 
 record Listing (o : OpenSide) (out₀ out : List ℕ) (filled j : ℕ) : Type 0 where
@@ -89,7 +90,7 @@ right {o} {came} {out} {first} c i end cell n k S h =
     let kept = length-set came 0 first in
     let all : length came ≡ 2 ^ k = sym kept ∙ i .whole ∙ ap (λ (x : ℕ). 2 ^ x) (shown-k h) in
     let there : getD (set came 0 first) 0 0 ≡ first = getD-set-same came 0 first 0 (omega (arith, all, pow-pos k)) in
-    does refl (sym (first-none (wrongLength ((length came, 2 ^ k) ∷ []) ∷ []) .1 (λ wrong. wrong (all, tt), tt)))
+    does refl (sym (first-none (wrongLength ((length came, exactly (2 ^ k)) ∷ []) ∷ []) .1 (λ wrong. wrong (all, tt), tt)))
     (in-order-is (2 ^ k) (cellAt k S c) 0 out (i .same ∙ kept ∙ all) (λ p l. i .each c (rw there cell) p (omega (arith, all, kept, i .same)) n k S h))
 
 abbrev Inv-loop : tie.InvT-loop

@@ -4,10 +4,10 @@ use borrow.Author.Needs.{needs}
 use mathlib.Core.Path.{refl}
 use mathlib.Core.List.{List}
 use lib.Bits.{xor-shifted}
-use Rattle.span.specs.Held.{width, entry, Made, Holds, Reduces}
+use Rattle.span.specs.Held.{width, MadeOf, Holds, Reduces}
 use Rattle.span.specs.Tools.{Asks}
 use Rattle.span.specs.declared.Scan.{Scan}
-use Rattle.span.proofs.HeldLaws.{row-left, no-sum, made-up, mask-old}
+use Rattle.span.proofs.HeldLaws.{row-left, no-sum, made-up, mask-old, entry}
 use Rattle.span.proofs.Scan.mask_of.Statement.{statement}
 use Rattle.span.proofs.Scan.mask_of.Tie as tie
 
@@ -31,7 +31,7 @@ module _ {scan : Scan} {v left : ℕ} (reduced : Reduces (scan .entries) (v * 2 
     no-sum = λ vs h n. absurd (n (made-up v short (made vs h)));
   }
     where
-      made : (vs : List ℕ) → Holds scan vs → Made vs (entry v left)
+      made : (vs : List ℕ) → Holds scan vs → MadeOf vs (entry v left)
       made vs h = rw (xor-shifted v width left short) at (reduced .made vs (h .echelon))
 
 returns : tie.Need-returns

@@ -9,7 +9,8 @@ use native.Mathlib.Nat.{ne-of-lt}
 use native.Mathlib.Omega.{arith}
 use Rattle.kinds.specs.Decided.{ifHolds}
 use Rattle.kinds.proofs.TruthLaws.{holds-yes, holds-no, denied}
-use Rattle.state.specs.Clocks.{PossibleClock, possibleClock?, counted, startedAnew, nextClock}
+use Rattle.state.specs.Clocks.{PossibleClock, counted, startedAnew, nextClock}
+use Rattle.state.specs.Decisions.{possibleClock?}
 use Rattle.state.specs.declared.Clock.{Clock}
 use Rattle.state.proofs.Clock.next.Statement.{statement}
 use Rattle.state.proofs.Clock.next.Tie as tie

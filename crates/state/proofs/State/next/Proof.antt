@@ -10,8 +10,9 @@ use lib.Dec.{eqb}
 use lib.ListN.{length}
 use Rattle.kinds.specs.Decided.{ifHolds}
 use Rattle.kinds.proofs.TruthLaws.{holds-yes, holds-no, says-same, denied}
-use Rattle.state.specs.Clocks.{possibleClock?, readOn, counted, full, nextClock}
-use Rattle.state.specs.States.{clockOf, Possible, possible?, came, next as nextState}
+use Rattle.state.specs.Clocks.{readOn, counted, full, nextClock}
+use Rattle.state.specs.Decisions.{possibleClock?, possible?}
+use Rattle.state.specs.States.{clockOf, Possible, came, next as nextState}
 use Rattle.state.specs.declared.Clock.{Clock}
 use Rattle.state.specs.declared.State.{State}
 use Rattle.state.proofs.ClockLaws.{full-last}
@@ -24,7 +25,8 @@ words-came (w ∷ ws) = rw (ne-eqb (length (w ∷ ws)) 0 (omega arith))
 
 by-clock : (T : ℕ) (st : State) (ws : List ℕ) (x : Clock) (b : Bool) (h : ℕ) → full T (counted (readOn T (clockOf st)) (came ws)) ≡ b
     → x ≡ nextClock T (clockOf st) (came ws) → h ≡ cond b (1 - st .h) (st .h) → _≡_ {A = State} (record { a = x .a; h = h; r = x .r }) (nextState T st ws)
-by-clock T st ws x b h e f g = rw (g, f, e)
+by-clock T st ws x true h e f g = rw (g, f, e)
+by-clock T st ws x false h e f g = rw (g, f, e)
 
 possible-requires : tie.Need-possible-requires
 possible-requires c κs = search needs

@@ -1,8 +1,8 @@
--- When a sheet passes, and that its maps then fit the run.
+-- When a sheet realises an order, its maps fit the run.
 --   shares-invertible   "M not invertible" and "two words share a cell" are one thing
 --   apart-wired         a side whose banks are apart has an invertible wiring
---   passes-fits         the maps of a sheet that passes for an order fit the run under it
---   fits-passes         and a sheet whose maps do passes
+--   realises-fits         the maps of a sheet that realises an order fit the run under it
+--   fits-realises         and a sheet whose maps do realises it
 use Prim.Native.Nat.{ℕ, _^_, _≤_}
 use mathlib.Core.Path.{sym, _∙_}
 use mathlib.Core.List.{List}
@@ -15,7 +15,8 @@ use Rattle.kinds.specs.Frame.{tickBits}
 use Rattle.kinds.proofs.TruthLaws.{stable}
 use Rattle.bits.specs.Image.{image}
 use Rattle.bits.proofs.ImageLaws.{image-lt}
-use Rattle.span.specs.Maps.{Into, Injective, Bijection, bijection?}
+use Rattle.span.specs.Maps.{Into, Injective, Bijection}
+use Rattle.span.specs.Decisions.{bijection?}
 use Rattle.span.proofs.Counting.{apart-injective, injective-bijection}
 use Rattle.order.specs.Order.{place, Order}
 use Rattle.order.proofs.OrderLaws.{order-bijection}
@@ -23,7 +24,9 @@ use Rattle.sheet.specs.Sheet.{Side, writeSide, readSide}
 use Rattle.sheet.specs.Layout.{InRange, WellFormed}
 use Rattle.switches.specs.Cells.{cellOf, M, N}
 use Rattle.switches.proofs.CellLaws.{same-bank, word-bank, wiring-part, cell-into}
-use Rattle.promise.specs.Passes.{Invertible, ShareCell, Passes, BanksApart, Fits}
+use Rattle.promise.specs.Agreement.{Invertible, ShareCell}
+use Rattle.promise.specs.Realises.{Realises}
+use Rattle.promise.proofs.Fits.{BanksApart, FitsOrder}
 
 module _ (n : ℕ) (f : ℕ → ℕ) where
   own-injective : ¬ ShareCell n f → Injective f (2 ^ n)
@@ -46,8 +49,8 @@ module _ {n k : ℕ} {S : Side} (used : InRange n k S) where
       (apart-injective (λ p q below h same. apart 0 p q (pow-pos (tickBits n k)) below h (wiring-part used p (omega arith) ∙ same ∙ sym (wiring-part used q h))))
 
 module _ {e : Edition} {n k : ℕ} {C s : List ℕ} where
-  pub passes-fits : k ≤ n → Order n C → WellFormed e n k s → Passes e n k C s → Fits n k (place C) (M e n k s) (N e n k s)
-  passes-fits within order formed ok =
+  pub realises-fits : k ≤ n → Order n C → WellFormed e n k s → Realises e n k C s → FitsOrder n k (place C) (M e n k s) (N e n k s)
+  realises-fits within order formed ok =
       let (write, (read, (own, (same, _)))) = ok .none-applies in
       record {
         write-cells = cell-into (formed .write .used) within;
@@ -59,8 +62,8 @@ module _ {e : Edition} {n k : ℕ} {C s : List ℕ} where
         in-order = λ i h. stable (ℕ-discrete (M e n k s i) (N e n k s (place C i))) (λ differ. same (i, h, differ));
       }
 
-  pub fits-passes : WellFormed e n k s → Fits n k (place C) (M e n k s) (N e n k s) → Passes e n k C s
-  fits-passes formed fits = record {
+  pub fits-realises : WellFormed e n k s → FitsOrder n k (place C) (M e n k s) (N e n k s) → Realises e n k C s
+  fits-realises formed fits = record {
     none-applies = (
       λ wrong. wrong (apart-wired (formed .write .used) (fits .write-banks)),
       (

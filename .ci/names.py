@@ -29,11 +29,17 @@ class Crate:
         self.constants = set(code.constants) if code else set()
         self.cases = {m for t in code.types for m in t.members if m[0].isupper()} if code else set()
         methods = {f.split("::")[-1] for f in self.functions}
-        self.names = self.stated | self.edits | self.functions | methods | self.types | self.constants | self.cases
+        told = self.edits | self.functions | methods | self.types | self.constants | self.cases
+        self.names = self.stated | told
+        # A promise rests on what is defined, on laws, whose names have a hyphen, and on cases that are computed; on nothing else that proofs define.
+        meant = {d.name for a in specs for d in a.definitions}
+        shown = {d.name for a in proofs for d in a.definitions if "-" in d.name or a.file in ("Cases", "Marked")}
+        self.promised = meant | shown | told
 
 
 crates = {c: Crate(c) for c in source.crates}
 everywhere = set().union(*(c.names for c in crates.values()))
+promised = set().union(*(c.promised for c in crates.values()))
 c_names = set(re.findall(r"\b(?:board_\w+|BOARD_\w+)\b", header))
 members = {}
 for d in source.definition.values():
@@ -49,8 +55,8 @@ def there(path):
     return BUILT.match(path) or glob.glob(path.replace("NAME", "*").rstrip("/"))
 
 
-def known(name, crate):
-    """Whether the name is there; in this crate, where one stands before it."""
+def known(name, crate, promise):
+    """Whether the name is there; in this crate, where one stands before it; and is one that a promise may rest on, where it stands in one."""
     if name in crates and crate is None:
         return True
     if is_path(name):
@@ -61,14 +67,14 @@ def known(name, crate):
     if "::" in name:
         several = re.match(r"^(.*)::\{(.*)\}$", name)
         if several:
-            return all(known(f"{several.group(1)}::{part}", crate) for part in several.group(2).split(", "))
+            return all(known(f"{several.group(1)}::{part}", crate, promise) for part in several.group(2).split(", "))
         first, rest = name.split("::", 1)
         if first in crates:
             return rest in crates[first].functions | crates[first].types | crates[first].constants
         return any(name in c.functions for c in crates.values())
     if crate is not None:
-        return name in crates[crate].names
-    return name in everywhere or name in c_names
+        return name in (crates[crate].promised if promise else crates[crate].names)
+    return name in (promised if promise else everywhere) or name in c_names
 
 
 looked_up, missing = 0, []
@@ -110,7 +116,7 @@ for path in DOCUMENTS:
                 between = line[end:start]
                 # `crate` `name`, `crate` File: `name`, `crate` law `name`: the name is one of that crate
                 crate = last if last and re.fullmatch(r" (?:[A-Z]\w*: |laws? )?", between) else None
-                look_up(known(name, crate), path, place, f"`{name}`" + (f" in `{crate}`" if crate else ""))
+                look_up(known(name, crate, path in rows), path, place, f"`{name}`" + (f" in `{crate}`" if crate else ""))
                 last = name if name in crates else None
                 end = stop
                 after = re.match(r" ([A-Z]\w+)\b", line[stop:])

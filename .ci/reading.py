@@ -145,8 +145,8 @@ def table(keys, words):
     return "\n".join(rows)
 
 
-THIRD = root("inspect", "ThirdDemand")
-INSPECTS, PLANS, IS_PLANNED, RIGHT = root("inspect", "Inspects"), root("plan", "Plans"), root("plan", "IsPlanned"), root("promise", "Right")
+THIRD = root("demand", "ThirdDemand")
+INSPECTS, PLANS, IS_PLANNED, RIGHT = root("inspect", "Inspects"), root("plan", "Plans"), root("construction", "IsPlanned"), root("promise", "Right")
 tools = promised()
 PARTS = [
     # name, roots, what is not walked into, the most lines

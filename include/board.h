@@ -36,7 +36,7 @@ enum {
   BOARD_WRITE_WIRING = 6,  /* write wiring not invertible */
   BOARD_READ_WIRING = 7,   /* read wiring not invertible */
   BOARD_SHARED_CELL = 8,   /* two words share a cell */
-  BOARD_DIFFERS = 9,       /* M differs from N P: the sheet is for another order */
+  BOARD_DIFFERS = 9,       /* M differs from N P: some word is not put in the cell that is read for its place */
   BOARD_STATE = 10,        /* impossible run state */
   BOARD_WRITE_CLASH = 11,  /* two written words want one bank in this call */
   BOARD_OVERWRITE = 12,    /* a cell to be written is filled */
@@ -60,16 +60,18 @@ enum {
 uint32_t board_plan(uint32_t n, uint32_t k, const uint16_t *columns, size_t columns_length, uint16_t *sheet,
                     size_t sheet_length);
 
-/* Order and sheet to verdict: 0 exactly when the run of this well-formed sheet is right for this order, over every
- * series of frames and blank ticks and every content of the words. columns: n elements. sheet: 64. Refusals 1 to 9. */
+/* Order and sheet to verdict: 0 exactly when the run of this well-formed sheet, from a fresh start, is right for this
+ * order, over every series of frames and blank ticks and every content of the words. columns: n elements. sheet: 64.
+ * Refusals 1 to 9. */
 uint32_t board_inspect(uint32_t n, uint32_t k, const uint16_t *columns, size_t columns_length, const uint16_t *sheet,
                        size_t sheet_length);
 
 /* One tick of a sheet. sheet: 64 elements. tick: the 2^k words that came, or none (length 0) on a blank tick.
  * out: 2^k elements; if a tick is handed out its words stand there by port, else out is left alone.
  * words, marks: 2^(n+1) elements each, the memory: half h is from h * 2^n on, by cell number; a mark that is not 0 means
- * filled.
- * state: a (ticks of the incoming frame so far), h (0 or 1), r (next tick to read; 2^t when idle), replaced on 0.
+ * filled. On 0 the cells that were read have mark 0 and their words as they were, and the words that came are stored in
+ * half h, each with mark 1.
+ * state: 3 elements: a (ticks of the incoming frame so far), h (0 or 1), r (next tick to read; 2^t when idle), replaced on 0.
  * said: 3 elements. On 0 the first is 1 if a tick was handed out, else 0. On 11 and 13 the second and third are the two
  * ports of the first pair that wants one bank: the smallest first port, then the smallest second. The others keep their
  * content.

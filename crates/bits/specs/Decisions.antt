@@ -4,7 +4,7 @@ use Prim.Native.Nat.{ℕ}
 use mathlib.Core.List.{List}
 use native.Mathlib.Decide.{decLt}
 use lib.ListN.{length, getD}
-use Rattle.kinds.specs.Search.{eachBelow}
+use Rattle.kinds.specs.Decided.{eachBelow}
 use Rattle.bits.specs.Image.{AllBelow}
 
 unfoldable pub allBelow? : (b : ℕ) (cs : List ℕ) → Dec (AllBelow b cs)

@@ -8,7 +8,7 @@ use mathlib.Core.Path.{_≡_, refl}
 use mathlib.Core.List.{List, [], _∷_, _++_}
 use native.Mathlib.Omega.{arith}
 use lib.ListN.{length, getD, take, drop, set}
-use Rattle.kinds.specs.Answers.{onto}
+use Rattle.kinds.specs.Answers.{overFront}
 
 pub three-places : (l : List ℕ) → length l ≡ 3 → getD l 0 0 ∷ getD l 1 0 ∷ getD l 2 0 ∷ [] ≡ l
 three-places [] h = absurd (omega arith)
@@ -20,7 +20,7 @@ three-places (a ∷ b ∷ c ∷ d ∷ l) h = absurd (omega arith)
 pub three-set : (l : List ℕ) {x y z : ℕ} → length l ≡ 3 → set (set (set l 0 x) 1 y) 2 z ≡ x ∷ y ∷ z ∷ []
 three-set l {x} {y} {z} h = rw (← three-places l h) refl
 
-pub two-set : (l : List ℕ) (x y : ℕ) → length l ≡ 3 → set (set l 1 x) 2 y ≡ take 1 l ++ onto (x ∷ y ∷ []) (drop 1 l)
+pub two-set : (l : List ℕ) (x y : ℕ) → length l ≡ 3 → set (set l 1 x) 2 y ≡ take 1 l ++ overFront (x ∷ y ∷ []) (drop 1 l)
 two-set l x y h = rw (← three-places l h) refl
 
 pub first-set : (l : List ℕ) {x : ℕ} → 1 ≤ length l → set l 0 x ≡ x ∷ drop 1 l

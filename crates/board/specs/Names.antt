@@ -17,7 +17,7 @@ use mathlib.Core.Path.{_≡_}
 use mathlib.Core.Bool.{cond}
 use mathlib.Core.List.{List, [], _∷_, _++_}
 use lib.ListN.{length, getD, take, drop}
-use Rattle.kinds.specs.Edition.{Edition}
+use Rattle.kinds.specs.Edition.{Edition, Sized}
 use Rattle.kinds.specs.Decisions.{sized?}
 use Rattle.kinds.specs.First.{firstOf}
 use Rattle.kinds.specs.Reasons.{outside, wrongLength}
@@ -28,7 +28,7 @@ use Rattle.price.specs.Price.{Prices, refusalOfPrice, sumsOf}
 use Rattle.price.specs.declared.Priced.{Priced}
 use Rattle.price.specs.declared.Priced.the-variants.{Costs, Refused as Unpriced}
 use Rattle.memory.specs.Memory.{Memory}
-use Rattle.kinds.specs.Answers.{onto}
+use Rattle.kinds.specs.Answers.{overFront}
 use Rattle.state.specs.declared.State.{State}
 use Rattle.call.specs.Tool.{Lent, Left, refusalOfRun, stateAfter}
 use Rattle.call.specs.declared.RunAnswer.{RunAnswer}
@@ -40,7 +40,7 @@ Numbers T r = (a : Answer) × T a × (r ≡ given (said a))
 
 pub record Besides (e : Edition) (n k : ℕ) (l : List (ℕ × Wanted)) (r : ℕ) (T K : Type 0) : Type 0 where
   pub right : RightLengths l → T
-  pub wrong : ¬ RightLengths l → (r ≡ given (firstOf (outside (sized? e n k) ∷ wrongLength l ∷ []))) × K
+  pub wrong : ¬ RightLengths l → (r ≡ given (firstOf (outside (Sized e n k) (sized? e n k) ∷ wrongLength l ∷ []))) × K
 
 abbrev pub stateIn : List ℕ → State
 stateIn l = record { a = getD l 0 0; h = getD l 1 0; r = getD l 2 0 }
@@ -50,7 +50,7 @@ stateOut st = st .a ∷ st .h ∷ st .r ∷ []
 
 abbrev pub saidAfter : RunAnswer → List ℕ → List ℕ
 saidAfter (Done st handed) l = cond handed 1 0 ∷ drop 1 l
-saidAfter (Refused x) l = take 1 l ++ onto (valuesOf x) (drop 1 l)
+saidAfter (Refused x) l = take 1 l ++ overFront (valuesOf x) (drop 1 l)
 
 pub record Reports (a : RunAnswer) (st st' l l' : List ℕ) (r : ℕ) : Type 0 where
   pub number : r ≡ given (refusalOfRun a)

@@ -20,7 +20,7 @@ use mathlib.Core.Option.{Option, none, some}
 use native.Mathlib.Omega.{arith}
 use lib.ListN.{length}
 use lib.Pow.{pow-mono}
-use Rattle.kinds.specs.Answers.{onto}
+use Rattle.kinds.specs.Answers.{overFront}
 use Rattle.kinds.specs.Edition.{Edition, edition1, Sized}
 use Rattle.kinds.specs.Decisions.{sized?, rightLengths?}
 use Rattle.kinds.specs.Frame.{ticks}
@@ -69,7 +69,7 @@ module _ (t : List Reason) (n k : ℕ) (f g : ℕ → ℕ) (b : Lent) where
         (record { refusal = refl; state = refl; handed = refl; memory = memory; buffer = buffer })
 
     pub comes-done : {st : State} {handed : Bool} → first ≡ none → st ≡ next (ticks n k) (b .state) (b .came) → handed ≡ reading (ticks n k) (b .state)
-        → m ≡ served (accessOf n k f g (b .state) (b .came)) (b .memory) → out ≡ onto (wordsAt (readsOf n k g (b .state)) (b .memory .words)) (b .out)
+        → m ≡ served (accessOf n k f g (b .state) (b .came)) (b .memory) → out ≡ overFront (wordsAt (readsOf n k g (b .state)) (b .memory .words)) (b .out)
         → ComesOf this b (record { answer = Done st handed; memory = m; out = out })
     comes-done given state handed memory buffer =
         comes-by (call-done t n k f g (b .state) (b .came) (b .memory) (this-given ∙ given))
@@ -104,11 +104,13 @@ module _ (e : Edition) (n k : ℕ) (w r : OpenSide) (b : Lent) where
   calls-checked c given is = record {
     before = λ y applies. record { refusal = sym (ap said is) ∙ given ∙ applies; state = refl; handed = refl; memory = refl; buffer = refl };
     over = λ W R _ _. comes-checked table n k (cellOf k W) (cellOf k R) b c given is;
+    as-it-came = λ _ _. (refl, refl);
   }
 
   pub calls-past : {l : Left} → firstOf table ≡ none
-      → ((W R : Side) → Shows n k w W → Shows n k r R → ComesOf (call table n k (cellOf k W) (cellOf k R) (b .state) (b .came) (b .memory)) b l) → Calls e n k w r b l
-  calls-past given over = record { before = λ x applies. none-some (sym given ∙ applies); over = over }
+      → ((W R : Side) → Shows n k w W → Shows n k r R → ComesOf (call table n k (cellOf k W) (cellOf k R) (b .state) (b .came) (b .memory)) b l)
+      → ((x : Refusal) → refusalOfRun (l .answer) ≡ some x → (l .memory ≡ b .memory) × (l .out ≡ b .out)) → Calls e n k w r b l
+  calls-past given over kept = record { before = λ x applies. none-some (sym given ∙ applies); over = over; as-it-came = kept }
 
   module _ {l q : Left} (x : Calls e n k w r b l) (y : Calls e n k w r b q) where
     pub calls-unique : {W R : Side} → Shows n k w W → Shows n k r R → l ≡ q

@@ -8,7 +8,7 @@
 --   Outcome                     what comes of a call: the refusal, if one is given; the state; whether a tick was handed out, and its words, by port; the memory
 --   carriedOut n k f g st ws m  what comes of it where nothing is refused
 --   refused x st m              what comes of it where the refusal x is given: state and memory as they came, and nothing handed out
---   callOr o n k f g st ws m   what comes of it where the refusal o is given, or none is
+--   callOr o n k f g st ws m    what comes of it where the refusal o is given, or none is
 --   call t n k f g st ws m      a call: the first that applies of the reasons of t and then of 11 to 14, and what comes of it. 12 is judged on the marks as they came
 use Prim.Native.Nat.{ℕ, _+_, _-_, _*_, _^_}
 use mathlib.Core.Bool.{Bool, false, cond}

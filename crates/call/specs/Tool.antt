@@ -9,15 +9,16 @@
 --   stateAfter st a        the state after a call that was answered a: on a refusal it stays as it came
 --   handedOut a            whether a says that a tick was handed out
 --   ComesOf o b l          what is left, l, is the outcome o of a call that was lent b
---   Calls e n k w r b l    the tool: where 1, 2 or 10 applies, l is what comes of that refusal, whatever w and r are; and l is what comes of a call over the cells of whichever sides w and r show
+--   Calls e n k w r b l    the tool: where 1, 2 or 10 applies, l is what comes of that refusal, and on any refusal everything lent is as it came, whatever w and r are; and l is what comes of a call
+--                          over the cells of whichever sides w and r show
 use Prim.Native.Nat.{ℕ, _+_, _^_}
 use mathlib.Core.Path.{_≡_}
 use mathlib.Core.Bool.{Bool, false}
 use mathlib.Core.List.{List, [], _∷_}
 use mathlib.Core.Option.{Option, none, some}
 use lib.ListN.{length}
-use Rattle.kinds.specs.Answers.{onto}
-use Rattle.kinds.specs.Edition.{Edition}
+use Rattle.kinds.specs.Answers.{overFront}
+use Rattle.kinds.specs.Edition.{Edition, Sized}
 use Rattle.kinds.specs.Decisions.{sized?}
 use Rattle.kinds.specs.Frame.{ticks}
 use Rattle.kinds.specs.First.{Reason, firstOf}
@@ -59,7 +60,7 @@ abbrev pub runLengths : ℕ → ℕ → Lengths → List (ℕ × Wanted)
 runLengths n k l = (l .came, orNone (2 ^ k)) ∷ (l .out, exactly (2 ^ k)) ∷ (l .words, exactly (2 ^ (n + 1))) ∷ (l .marks, exactly (2 ^ (n + 1))) ∷ []
 
 abbrev pub callTable : Edition → ℕ → ℕ → State → Lengths → List Reason
-callTable e n k st l = outside (sized? e n k) ∷ wrongLength (runLengths n k l) ∷ impossible (ticks n k) st ∷ []
+callTable e n k st l = outside (Sized e n k) (sized? e n k) ∷ wrongLength (runLengths n k l) ∷ impossible (ticks n k) st ∷ []
 
 abbrev pub refusalOfRun : RunAnswer → Option Refusal
 refusalOfRun (Done st handed) = none
@@ -78,9 +79,10 @@ pub record ComesOf (o : Outcome) (b : Lent) (l : Left) : Type 0 where
   pub state : stateAfter (b .state) (l .answer) ≡ o .state
   pub handed : handedOut (l .answer) ≡ o .handed
   pub memory : l .memory ≡ o .memory
-  pub buffer : l .out ≡ onto (o .leaving) (b .out)
+  pub buffer : l .out ≡ overFront (o .leaving) (b .out)
 
 pub record Calls (e : Edition) (n k : ℕ) (w r : OpenSide) (b : Lent) (l : Left) : Type 0 where
   pub before : (x : Refusal) → firstOf (callTable e n k (b .state) (lengthsOf b)) ≡ some x → ComesOf (refused x (b .state) (b .memory)) b l
   pub over : (W R : Side) → Shows n k w W → Shows n k r R
       → ComesOf (call (callTable e n k (b .state) (lengthsOf b)) n k (cellOf k W) (cellOf k R) (b .state) (b .came) (b .memory)) b l
+  pub as-it-came : (x : Refusal) → refusalOfRun (l .answer) ≡ some x → (l .memory ≡ b .memory) × (l .out ≡ b .out)

@@ -23,11 +23,11 @@ use Rattle.kinds.specs.declared.Refusal.the-variants.{Card}
 use Rattle.kinds.proofs.AnswerLaws.{said-same}
 use Rattle.kinds.proofs.FirstLaws.{first-take, first-skip, first-nil}
 use Rattle.text.specs.Decimal.{decimal}
-use Rattle.text.specs.Numbers.{ending, numbersText, Row, Begins}
+use Rattle.text.specs.Numbers.{ending, numbersText, IsRow, Begins}
 use Rattle.text.proofs.DecimalLaws.{decimal-some}
 use Rattle.text.proofs.RowLaws.{row-next, row-rest, row-unique, row?}
 use Rattle.bits.specs.Padded.{paddedTo}
-use Rattle.card.specs.Card.{longest, fewest, IsCard, Readable, numbersOn, columnsOn, unreadable, mostColumns, Reads}
+use Rattle.card.specs.Card.{longest, fewestNumbers, IsCard, Readable, numbersOn, columnsOn, unreadable, mostColumns, Reads}
 use Rattle.card.specs.declared.Reading.{Reading}
 
 alike : {a a' : Answer} {n n' k k' m m' : ℕ} {C C' : List ℕ} → a ≡ a' → n ≡ n' → k ≡ k' → C ≡ C' → m ≡ m'
@@ -43,16 +43,16 @@ unfolding numbersText
 row-places [] = omega arith
 row-places (x ∷ xs) = omega (arith, decimal-some x, length-append (decimal x) (ending (numbersText xs) ∷ numbersText xs), row-places xs)
 
-some-number : {b ns : List ℕ} → Row b ns → 1 ≤ length ns → (v : ℕ) × (rest : List ℕ) × Begins b v rest
+some-number : {b ns : List ℕ} → IsRow b ns → 1 ≤ length ns → (v : ℕ) × (rest : List ℕ) × Begins b v rest
 some-number {ns = []} r h = absurd (omega arith)
 some-number {ns = x ∷ xs} r h = (x, numbersText xs, row-next r .0)
 
 unfoldable pub card? : (b : List ℕ) → Dec (Readable b)
 unfolding decLe
 card? b = elim (row? b) [
-  | yes (ns, row) ↦ elim (both (decLe (length b) longest) (decLe fewest (length ns))) [
+  | yes (ns, row) ↦ elim (both (decLe (length b) longest) (decLe fewestNumbers (length ns))) [
     | yes (short, enough) ↦ yes (ns, record { short = short; numbers = row; enough = enough })
-    | no not ↦ no (λ (ms, is). not (is .short, subst (λ (l : List ℕ). fewest ≤ length l) (row-unique (is .numbers) row) (is .enough)))
+    | no not ↦ no (λ (ms, is). not (is .short, subst (λ (l : List ℕ). fewestNumbers ≤ length l) (row-unique (is .numbers) row) (is .enough)))
   ]
   | no not ↦ no (λ (ns, is). not (ns, is .numbers))
 ]
@@ -102,7 +102,7 @@ module _ {b : List ℕ} where
   pub card-second : {ns rest : List ℕ} {n : ℕ} → Begins b n rest → IsCard b ns → (v : ℕ) × (after : List ℕ) × Begins rest v after
   card-second g is = let (xs, r, e) = row-rest g (is .numbers) in some-number r (omega (arith, is .enough, ap length e))
 
-  pub card-others : {ns rest after : List ℕ} {n k : ℕ} → Begins b n rest → Begins rest k after → IsCard b ns → (C : List ℕ) × Row after C
+  pub card-others : {ns rest after : List ℕ} {n k : ℕ} → Begins b n rest → Begins rest k after → IsCard b ns → (C : List ℕ) × IsRow after C
   card-others g f is =
       let (xs, r, _) = row-rest g (is .numbers) in
       let (C, s, _) = row-rest f r in

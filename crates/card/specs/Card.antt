@@ -1,6 +1,6 @@
 -- The order card (01, 'The order card').
 --   longest            "at most 128 bytes"
---   fewest             "fewer than two numbers is 15"
+--   fewestNumbers      "fewer than two numbers is 15"
 --   IsCard b ns        b is a card, and ns are its numbers: "n, k, the columns"
 --   Readable b         b is a card
 -- What a card says is said for every decision d of whether it is readable: that is the same numbers for each, since no bytes are the row of two lists.
@@ -15,13 +15,13 @@ use Prim.Native.Nat.{ℕ, _-_, _/_, _≤_}
 use mathlib.Core.Path.{_≡_}
 use mathlib.Core.List.{List, [], _∷_}
 use lib.ListN.{length, getD, drop}
-use Rattle.kinds.specs.Edition.{Edition}
+use Rattle.kinds.specs.Edition.{Edition, Sized}
 use Rattle.kinds.specs.Decisions.{sized?}
 use Rattle.kinds.specs.First.{Reason, unless, firstOf}
 use Rattle.kinds.specs.Refusal.{said}
 use Rattle.kinds.specs.declared.Refusal.the-variants.{Card}
 use Rattle.kinds.specs.Lengths.{Wanted}
-use Rattle.text.specs.Numbers.{Row}
+use Rattle.text.specs.Numbers.{IsRow}
 use Rattle.order.specs.Table.{orderTable}
 use Rattle.bits.specs.Padded.{paddedTo}
 use Rattle.card.specs.declared.Reading.{Reading}
@@ -29,13 +29,13 @@ use Rattle.card.specs.declared.Reading.{Reading}
 abbrev pub longest : ℕ
 longest = 128
 
-abbrev pub fewest : ℕ
-fewest = 2
+abbrev pub fewestNumbers : ℕ
+fewestNumbers = 2
 
 pub record IsCard (b ns : List ℕ) : Type 0 where
   pub short : length b ≤ longest
-  pub numbers : Row b ns
-  pub enough : fewest ≤ length ns
+  pub numbers : IsRow b ns
+  pub enough : fewestNumbers ≤ length ns
 
 abbrev pub Readable : List ℕ → Type 0
 Readable b = (ns : List ℕ) × IsCard b ns
@@ -54,7 +54,7 @@ abbrev pub columnsOn : {b : List ℕ} → Dec (Readable b) → List ℕ
 columnsOn d = drop 2 (numbersOn d)
 
 abbrev pub unreadable : {b : List ℕ} → Dec (Readable b) → Reason
-unreadable d = unless Card d
+unreadable {b} d = unless Card (Readable b) d
 
 abbrev pub mostColumns : ℕ
 mostColumns = longest / 2 - 2
@@ -70,4 +70,4 @@ abbrev pub Reads : List ℕ → Reading → Type 0
 Reads b r = (d : Dec (Readable b)) → ReadsAs d r
 
 abbrev pub cardTable : {b : List ℕ} → Edition → Dec (Readable b) → List (ℕ × Wanted) → List Reason
-cardTable e d others = unreadable d ∷ orderTable (sized? e (nOn d) (kOn d)) (nOn d) (columnsOn d) others
+cardTable e d others = unreadable d ∷ orderTable (Sized e (nOn d) (kOn d)) (sized? e (nOn d) (kOn d)) (nOn d) (columnsOn d) others

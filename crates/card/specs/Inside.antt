@@ -7,7 +7,7 @@ use mathlib.Core.Path.{_≡_}
 use mathlib.Core.Bool.{true, false}
 use mathlib.Core.List.{List}
 use lib.ListN.{length, drop}
-use Rattle.text.specs.Numbers.{Row}
+use Rattle.text.specs.Numbers.{IsRow}
 use Rattle.bits.specs.Padded.{paddedTo}
 use Rattle.card.specs.Card.{longest, mostColumns, Readable, Reads}
 use Rattle.card.specs.declared.Columns.{Columns}
@@ -22,5 +22,5 @@ pub record Further (b : List ℕ) (at : ℕ) : Type 0 where
   pub within : at ≤ length b
 
 pub record ReadsColumns (b : List ℕ) (at : ℕ) (r : Columns) : Type 0 where
-  pub read : r .readable ≡ true → (C : List ℕ) × Row (drop at b) C × (r .numbers ≡ paddedTo mostColumns C) × (r .count ≡ length C)
-  pub unread : r .readable ≡ false → (C : List ℕ) → ¬ Row (drop at b) C
+  pub read : r .readable ≡ true → (C : List ℕ) × IsRow (drop at b) C × (r .numbers ≡ paddedTo mostColumns C) × (r .count ≡ length C)
+  pub unread : r .readable ≡ false → (C : List ℕ) → ¬ IsRow (drop at b) C

@@ -15,9 +15,10 @@ use mathlib.Core.Logic.{_≢_, _↔_}
 use native.Mathlib.Decide.{decLe}
 use native.Mathlib.Omega.{arith}
 use lib.ListN.{length, getD}
-use Rattle.kinds.specs.Decided.{ifHolds}
+use Rattle.kinds.specs.Answers.{ifHolds}
 use Rattle.kinds.specs.Frame.{bankOf}
-use Rattle.kinds.specs.Search.{someBelow, found}
+use Rattle.kinds.specs.Decided.{someBelow}
+use Rattle.kinds.specs.Search.{found}
 use Rattle.kinds.specs.declared.Port.{Port}
 use Rattle.kinds.proofs.TruthLaws.{holds-yes}
 use Rattle.kinds.proofs.SearchLaws.{found-has, found-first, found-least}

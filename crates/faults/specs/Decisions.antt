@@ -1,7 +1,7 @@
 -- Decisions of what this crate's meanings state. Each carries its proof, so none has to be read.
 --   filled? l x                 whether cell x is filled
 --   wantOneBank? k cs p q       whether port p and a later port q want one bank
---   laterWants? k cs p           whether some later port wants the bank of port p: a search from port 0 up
+--   laterWants? k cs p          whether some later port wants the bank of port p: a search from port 0 up
 --   clash? k cs                 whether some port has such a later one: a search from port 0 up
 --   someFilled? l cs, someEmpty? l cs      whether some cell of cs is filled, is empty
 --   countable? writes reads     whether ports have numbers for all cells
@@ -9,9 +9,8 @@ use Prim.Native.Nat.{ℕ}
 use mathlib.Core.List.{List}
 use native.Mathlib.Decide.{decLt, decLe, ℕ-discrete}
 use lib.ListN.{length, getD}
-use Rattle.kinds.specs.Decided.{both, through, opposite}
+use Rattle.kinds.specs.Decided.{both, through, opposite, someBelow}
 use Rattle.kinds.specs.Frame.{bankOf}
-use Rattle.kinds.specs.Search.{someBelow}
 use Rattle.faults.specs.Marks.{Filled}
 use Rattle.faults.specs.Faults.{WantOneBank, LaterWants, Clash, SomeFilled, SomeEmpty, mostCells, Countable}
 

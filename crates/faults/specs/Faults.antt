@@ -1,6 +1,6 @@
 -- What makes a call stop (01, 'When a tool says no', 11 to 14), for any cells that it writes and reads. The cells cs are by port, l is the marks.
 --   WantOneBank k cs p q        port p and a later port q want one bank. A half starts at bank 0, so the bank of a place is that of its cell
---   LaterWants k cs p            some later port wants the bank of port p
+--   LaterWants k cs p           some later port wants the bank of port p
 --   Clash k cs                  some port has such a later one
 --   LowestPair k cs p q         "the first such pair, lowest port first", "smallest first port, then smallest second": p and q want one bank,
 --                               no two ports that do have a smaller first, and none with the first port p have a smaller second

@@ -19,7 +19,7 @@ use Rattle.kinds.specs.declared.Refusal.{Refusal}
 use Rattle.kinds.specs.declared.Refusal.the-variants.{Length, WriteClash, Overwrite, ReadClash, EmptyRead}
 use Rattle.faults.specs.declared.Pair.{Pair}
 use Rattle.faults.specs.declared.Pair.the-variants.{Nowhere, Between}
-use Rattle.faults.specs.Faults.{Clash, SomeFilled, SomeEmpty, judgedOn}
+use Rattle.faults.specs.Faults.{Clash, SomeFilled, SomeEmpty, Countable, judgedOn}
 use Rattle.faults.specs.Decisions.{laterWants?, clash?, someFilled?, someEmpty?, countable?}
 
 abbrev pub firstPort : ℕ → List ℕ → ℕ
@@ -52,4 +52,4 @@ abbrev pub faults : ℕ → List ℕ → List ℕ → List ℕ → List ℕ → 
 faults k writes reads w l = clash WriteClash k writes ∷ overwrite w writes ∷ clash ReadClash k reads ∷ emptyRead l reads ∷ []
 
 abbrev pub faultTable : Bool → ℕ → List ℕ → List ℕ → List ℕ → List Reason
-faultTable after k writes reads l = unless Length (countable? writes reads) ∷ faults k writes reads (judgedOn after reads l) l
+faultTable after k writes reads l = unless Length (Countable writes reads) (countable? writes reads) ∷ faults k writes reads (judgedOn after reads l) l

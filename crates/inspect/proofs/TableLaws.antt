@@ -12,7 +12,7 @@ use mathlib.Core.List.{List, _∷_}
 use mathlib.Core.Logic.{_↔_}
 use mathlib.Core.Option.{none}
 use native.Mathlib.Omega.{arith}
-use Rattle.kinds.specs.Edition.{Edition}
+use Rattle.kinds.specs.Edition.{Edition, Sized}
 use Rattle.kinds.specs.Decisions.{sized?}
 use Rattle.kinds.specs.First.{Reason, firstOf, Ascending}
 use Rattle.kinds.specs.Refusal.{said}
@@ -40,7 +40,7 @@ module _ (e : Edition) (n k : ℕ) (C s : List ℕ) where
   inspect-ascending = (omega arith, (omega arith, omega arith))
 
   abbrev first : List Reason
-  first = orderTable (sized? e n k) n C (sheetLengths e s)
+  first = orderTable (Sized e n k) (sized? e n k) n C (sheetLengths e s)
 
   abbrev rest : List Reason
   rest = brokenLayout e n k s ∷ mapTable e n k C s

@@ -1,4 +1,3 @@
--- What the inspector promises, and the third demand.
+-- What the inspector promises.
 pub mod Tool
 pub mod Inside
-pub mod Demand

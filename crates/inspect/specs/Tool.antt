@@ -18,7 +18,7 @@ use Rattle.kinds.specs.declared.Answer.the-variants.{Done, Refused}
 use Rattle.kinds.specs.declared.Refusal.{Refusal}
 use Rattle.span.specs.Scan.{rank}
 use Rattle.order.specs.Order.{Order}
-use Rattle.order.specs.Parts.{rowsP1}
+use Rattle.parts.specs.Parts.{rowsP1}
 use Rattle.order.specs.Table.{orderTable}
 use Rattle.sheet.specs.Sheet.{writeSide, readSide}
 use Rattle.sheet.specs.Layout.{WellFormed}
@@ -29,7 +29,7 @@ use Rattle.promise.specs.Right.{Right}
 use Rattle.promise.specs.Realises.{mapTable}
 
 abbrev pub inspectTable : Edition → ℕ → ℕ → List ℕ → List ℕ → List Reason
-inspectTable e n k C s = orderTable (sized? e n k) n C (sheetLengths e s) ++ brokenLayout e n k s ∷ mapTable e n k C s
+inspectTable e n k C s = orderTable (Sized e n k) (sized? e n k) n C (sheetLengths e s) ++ brokenLayout e n k s ∷ mapTable e n k C s
 
 pub record Inspectable (e : Edition) (n k : ℕ) (C s : List ℕ) : Type 0 where
   pub sized : Sized e n k

@@ -1,5 +1,5 @@
 -- The law of `firstOf`.
---   none-some       a refusal is not none
+--   none-some      a refusal is not none
 --   first-nil      an empty table refuses nothing
 --   first-take     a first reason that applies is given
 --   first-skip     a first reason that doesn't leaves the rest to decide
@@ -10,7 +10,7 @@
 --   first-both     a table and another after it give nothing exactly when neither does
 --   first-exact    what is given is the first that applies, and nothing else
 --   first-has      what every refusal of a table has, the one that is given has
---   lowest-law      of a table with ascending numbers, what is given is the lowest that applies, and nothing else
+--   lowest-law     of a table with ascending numbers, what is given is the lowest that applies, and nothing else
 use Prim.Native.Nat.{ℕ, _<_, _≤_}
 use mathlib.Core.Path.{_≡_, refl, sym, ap, _∙_}
 use mathlib.Core.List.{List, [], _∷_, _++_}

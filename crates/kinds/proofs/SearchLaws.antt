@@ -16,8 +16,8 @@ use native.Mathlib.Decide.{ℕ-discrete, decLt}
 use native.Mathlib.Omega.{arith}
 use lib.ListN.{length, getD, length-append, List·getD-append}
 use lib.Seq.{getD-append-seam}
-use Rattle.kinds.specs.Decided.{opposite}
-use Rattle.kinds.specs.Search.{further, someBelow, found, withIf, those}
+use Rattle.kinds.specs.Decided.{opposite, further, someBelow}
+use Rattle.kinds.specs.Search.{found, withIf, those}
 
 module _ {P : ℕ → Type 0} (P? : (i : ℕ) → Dec (P i)) where
   has : {n : ℕ} (d : Dec ((i : ℕ) × (i < n) × P i)) → (i : ℕ) × (i < n) × P i → (found d < n) × P (found d)

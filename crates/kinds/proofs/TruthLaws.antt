@@ -11,8 +11,7 @@ use Prim.Native.Nat.{ℕ}
 use mathlib.Core.Path.{_≡_, refl, sym, _∙_}
 use mathlib.Core.Bool.{Bool, true, false, Bool·beq}
 use native.Mathlib.Omega.{arith}
-use Rattle.kinds.specs.Decided.{ifHolds}
-use Rattle.kinds.specs.Answers.{Says}
+use Rattle.kinds.specs.Answers.{ifHolds, Says}
 
 pub false≢true : {A : Type 0} → false ≡ true → A
 false≢true e = absurd (let z : _≡_ {A = ℕ} 0 1 = cc in omega arith)

@@ -4,7 +4,8 @@
 --                          beside those that the check knows, as long as fits says whether they are right
 --   Answers t o D K        a tool's answer, where o is the refusal that it gives, if it gives one: o is the first of the table t that applies;
 --                          where that is none, D holds, what the tool is to answer or to leave; on a refusal K, everything lent is as it came
---   onto l out             the lent buffer out after the numbers l went there, from its first place on; it is long enough for them
+--   overFront l out        the lent buffer out after the numbers l went there, from its first place on; it is long enough for them
+--   ifHolds d x y          x where the statement that d decides holds, else y
 use Prim.Native.Nat.{ℕ}
 use mathlib.Core.Path.{_≡_}
 use mathlib.Core.Bool.{Bool, true}
@@ -29,5 +30,9 @@ pub record Answers (t : List Reason) (o : Option Refusal) (D K : Type 0) : Type 
   pub done : o ≡ none → D
   pub refused : (x : Refusal) → o ≡ some x → K
 
-abbrev pub onto : List ℕ → List ℕ → List ℕ
-onto l out = l ++ drop (length l) out
+abbrev pub overFront : List ℕ → List ℕ → List ℕ
+overFront l out = l ++ drop (length l) out
+
+abbrev pub ifHolds : {P A : Type 0} → Dec P → A → A → A
+ifHolds (yes p) x y = x
+ifHolds (no n) x y = y

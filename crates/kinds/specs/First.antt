@@ -1,7 +1,7 @@
 -- Which refusal a tool gives, said once for every tool. A tool's table is a list of reasons to refuse, and of those that apply the first of the list is given.
 -- "Of a tool's numbers the lowest that applies is given" (01): so it is where the numbers of the table go up.
 --   Reason                   a refusal, the statement that makes it apply, in 01's words, and a decision of that statement
---   unless r d               the reason that refuses with r unless the statement that d decides holds
+--   unless r A d             the reason that refuses with r unless the statement A holds, which d decides
 --   orElse d r o             the refusal r if d says that it applies, else o
 --   firstOf t                the refusal of the first reason of t that applies; none where none does
 --   EachReason Q t           every reason of t has Q
@@ -23,8 +23,8 @@ pub record Reason : Type 1 where
   pub applies : Type 0
   pub decided : Dec applies
 
-abbrev pub unless : {A : Type 0} → Refusal → Dec A → Reason
-unless {A} r d = record { refusal = r; applies = ¬ A; decided = opposite d }
+abbrev pub unless : Refusal → (A : Type 0) → Dec A → Reason
+unless r A d = record { refusal = r; applies = ¬ A; decided = opposite d }
 
 abbrev pub orElse : {A : Type 0} → Dec A → Refusal → Option Refusal → Option Refusal
 orElse (yes a) r o = some r

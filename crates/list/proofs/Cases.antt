@@ -10,7 +10,8 @@ use Rattle.kinds.specs.Edition.{edition1}
 use Rattle.kinds.specs.Decisions.{sized?, rightLengths?}
 use Rattle.kinds.specs.Frame.{inOrder}
 use Rattle.kinds.specs.First.{firstOf}
-use Rattle.kinds.specs.Search.{someBelow, those}
+use Rattle.kinds.specs.Decided.{someBelow}
+use Rattle.kinds.specs.Search.{those}
 use Rattle.bits.specs.Image.{image, columns}
 use Rattle.bits.specs.Parity.{parity, dot}
 use Rattle.span.specs.Decisions.{sumOf?, independent?}
@@ -20,7 +21,7 @@ use Rattle.text.specs.Decimal.{codes, decimalIn}
 use Rattle.text.proofs.RowLaws.{row?}
 use Rattle.switches.specs.Stages.{afterStages}
 use Rattle.switches.specs.Written.{keptStages}
-use Rattle.plan.specs.Planned.{othersOfP1, portsToZero, keptOfP3, readStages}
+use Rattle.construction.specs.Planned.{othersOfP1, portsToZero, keptOfP3, readStages}
 use Rattle.lay.specs.Staged.{pairs}
 use Rattle.card.proofs.CardLaws.{card?}
 use Rattle.lines.specs.Line.{spaced}

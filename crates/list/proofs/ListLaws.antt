@@ -13,7 +13,7 @@ use mathlib.Core.List.{List, [], _∷_, _++_}
 use native.Mathlib.Omega.{arith}
 use lib.ListN.{length, take, drop, set, length-append}
 use lib.Seq.{sets-eq}
-use Rattle.kinds.specs.Edition.{edition1}
+use Rattle.kinds.specs.Edition.{edition1, Sized}
 use Rattle.kinds.specs.Decisions.{sized?}
 use Rattle.kinds.specs.First.{firstOf}
 use Rattle.kinds.specs.Lengths.{Wanted, RightLengths}
@@ -23,7 +23,7 @@ use Rattle.kinds.proofs.FirstLaws.{first-none, first-skip, first-alike}
 use Rattle.text.specs.Decimal.{codes, decimal}
 use Rattle.text.proofs.DecimalLaws.{decimal-length}
 use Rattle.order.specs.Table.{orderTable}
-use Rattle.kinds.specs.Answers.{onto}
+use Rattle.kinds.specs.Answers.{overFront}
 use Rattle.bits.proofs.PaddedLaws.{padded-part}
 use Rattle.card.specs.Card.{mostColumns, Readable, columnsOn, unreadable, ReadsAs, cardTable}
 use Rattle.lines.specs.Line.{spaced, line}
@@ -40,7 +40,7 @@ module _ {b : List ℕ} {d : Dec (Readable b)} {R : Reading} (reads : ReadsAs d 
   columns-read = rw (reads .columns) (padded-part mostColumns (columnsOn d) (R .count) (reads .count))
 
   module _ (readable : R .answer ≡ Done) (others : List (ℕ × Wanted)) where
-    pub order-on-card : firstOf (orderTable (sized? edition1 (R .n) (R .k)) (R .n) (read R) others) ≡ firstOf (cardTable edition1 d others)
+    pub order-on-card : firstOf (orderTable (Sized edition1 (R .n) (R .k)) (sized? edition1 (R .n) (R .k)) (R .n) (read R) others) ≡ firstOf (cardTable edition1 d others)
     order-on-card =
         rw (reads .n, reads .k, columns-read) refl
         ∙ sym (first-skip (unreadable d) _ (first-none (unreadable d ∷ []) .0 (sym (reads .answer) ∙ ap said readable) .0))
@@ -55,7 +55,7 @@ module _ {b : List ℕ} (d : Dec (Readable b)) (others : List (ℕ × Wanted)) (
       (first-alike _ _ _ _ refl (λ a. a, λ a. a)
       (first-alike _ _ _ _ refl (λ wrong r. wrong (r .0, right), λ wrong r. wrong (r .0, tt)) refl))
 
-pub writes-onto : {w x y : List ℕ} {r : ℕ} → Writes w 0 x y r → Fits w 0 x → y ≡ onto w x
+pub writes-onto : {w x y : List ℕ} {r : ℕ} → Writes w 0 x y r → Fits w 0 x → y ≡ overFront w x
 writes-onto {w} {x} wrote fits = wrote .text ∙ sets-eq w x 0 fits ∙ ap (λ (i : ℕ). w ++ drop i x) {x = 0 + length w} {y = length w} (omega arith)
 
 pub refusal-short : (x : ℕ) → x < 2 ^ 32 → length (line (codes "refused") (x ∷ [])) ≤ 19
@@ -66,7 +66,7 @@ pub prints-by : {b t t' x w : List ℕ} {d : Dec (Readable b)} {r : ℕ} → Wri
     → PrintsAs edition1 d x t' r
 prints-by {t = t} {w = w} {r = r} writes same kept fits =
     let end : r ≡ length w = omega (arith, writes .next) in
-    record { length-of = end ∙ ap length same; text = writes-onto writes (omega (arith, ap length kept, fits)) ∙ ap₂ onto same kept }
+    record { length-of = end ∙ ap length same; text = writes-onto writes (omega (arith, ap length kept, fits)) ∙ ap₂ overFront same kept }
 
 pub one-set : (l : List ℕ) {x : ℕ} → length l ≡ 1 → set l 0 x ≡ x ∷ []
 one-set [] h = absurd (omega arith)

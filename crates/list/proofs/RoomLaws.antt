@@ -11,7 +11,8 @@ use lib.ListN.{length, getD, length-append, List·getD-eq-default}
 use lib.Pow.{pow-pos, pow-mono}
 use Rattle.kinds.specs.Edition.{edition1, Sized}
 use Rattle.kinds.specs.Frame.{ticks, tickBits, wordAt, inOrder}
-use Rattle.kinds.specs.Search.{found, someBelow}
+use Rattle.kinds.specs.Decided.{someBelow}
+use Rattle.kinds.specs.Search.{found}
 use Rattle.kinds.proofs.FrameLaws.{frame-whole, in-order-length, in-order-at}
 use Rattle.bits.specs.Image.{AllBelow}
 use Rattle.bits.proofs.ImageLaws.{below-one, below-append}
@@ -22,10 +23,10 @@ use Rattle.sheet.specs.Sheet.{Stage, Side, flat}
 use Rattle.sheet.specs.Layout.{StageInRange, EachStage}
 use Rattle.sheet.proofs.LayLaws.{flat-length, Layable}
 use Rattle.promise.specs.Series.{wordsOfTick}
-use Rattle.plan.specs.Planned.{plannedRead, plannedWrite}
-use Rattle.plan.proofs.ChoiceLaws.{read-layable}
-use Rattle.plan.proofs.PlannedLaws.{write-layable}
-use Rattle.trial.specs.Trial.{wordAtPlace, lampOrder}
+use Rattle.construction.specs.Planned.{plannedRead, plannedWrite}
+use Rattle.construction.proofs.ChoiceLaws.{read-layable}
+use Rattle.construction.proofs.PlannedLaws.{write-layable}
+use Rattle.trial.specs.Trial.{wordAtPlace, wordsAsTheyLeave}
 use Rattle.lines.specs.Line.{line}
 use Rattle.lines.proofs.LineLaws.{spaced-length, line-length}
 use Rattle.list.specs.Listing.{stageLine, tickLine, listing}
@@ -71,10 +72,10 @@ found-below : {P : ℕ → Type 0} {n : ℕ} (d : Dec ((i : ℕ) × (i < n) × P
 found-below (yes (i, h, p)) some = h
 found-below (no not) some = some
 
-pub lamps-below : (n : ℕ) (C : List ℕ) (q : ℕ) → getD (lampOrder n C) q 0 < 2 ^ n
+pub lamps-below : (n : ℕ) (C : List ℕ) (q : ℕ) → getD (wordsAsTheyLeave n C) q 0 < 2 ^ n
 lamps-below n C q = elim (decLt q (2 ^ n)) [
   | yes h ↦ rw (in-order-at (2 ^ n) (wordAtPlace n C) 0 q h) (found-below (someBelow (λ i. ℕ-discrete (place C i) q) (2 ^ n)) (pow-pos n))
-  | no h ↦ rw (List·getD-eq-default (lampOrder n C) 0 {n = q} (omega (arith, in-order-length (2 ^ n) (wordAtPlace n C)))) (pow-pos n)
+  | no h ↦ rw (List·getD-eq-default (wordsAsTheyLeave n C) 0 {n = q} (omega (arith, in-order-length (2 ^ n) (wordAtPlace n C)))) (pow-pos n)
 ]
 
 module _ (k : ℕ) (l : List ℕ) (c : ℕ) where
@@ -93,7 +94,7 @@ lines-length b (suc m) f each =
 
 module _ {n k : ℕ} {C : List ℕ} (sized : Sized edition1 n k) (order : Order n C) where
   abbrev lamps : List ℕ
-  lamps = lampOrder n C
+  lamps = wordsAsTheyLeave n C
 
   tick-line : (c : ℕ) → c < ticks n k → length (tickLine k lamps c) ≤ 5 + 5 * 2 ^ k
   unfolding codes

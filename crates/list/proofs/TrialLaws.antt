@@ -18,10 +18,10 @@ use Rattle.sheet.specs.Sheet.{Side, flat, laidOut}
 use Rattle.bits.specs.Padded.{paddedTo}
 use Rattle.bits.proofs.PaddedLaws.{padded-length}
 use Rattle.sheet.proofs.LayLaws.{flat-length, Layable}
-use Rattle.plan.specs.Planned.{plannedRead, plannedWrite, plannedSheet}
-use Rattle.plan.proofs.ChoiceLaws.{read-layable}
-use Rattle.plan.proofs.PlannedLaws.{write-layable}
-use Rattle.trial.specs.Trial.{lampOrder}
+use Rattle.construction.specs.Planned.{plannedRead, plannedWrite, plannedSheet}
+use Rattle.construction.proofs.ChoiceLaws.{read-layable}
+use Rattle.construction.proofs.PlannedLaws.{write-layable}
+use Rattle.trial.specs.Trial.{wordsAsTheyLeave}
 use Rattle.lines.specs.Line.{line}
 use Rattle.list.specs.Listing.{stageLine, tickLine, listing}
 use Rattle.list.specs.Inside.{countedStages, Counted, tickLines, writeCount, readCount, Tried, trialText}
@@ -106,7 +106,7 @@ module _ {n k : ℕ} {C : List ℕ} (sized : Sized edition1 n k) (order : Order 
       ap (take (length (plannedSheet edition1 n k C) - 47)) from ∙ take-all (length (plannedSheet edition1 n k C) - 47) (rest read) (omega (arith, whole, rest-length read))
 
   abbrev lamps : List ℕ
-  lamps = lampOrder n C
+  lamps = wordsAsTheyLeave n C
 
   lamps-length : length lamps ≡ 2 ^ n
   lamps-length = in-order-length (2 ^ n) _

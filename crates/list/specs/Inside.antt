@@ -1,6 +1,6 @@
 -- What the functions inside the crate promise one another.
 --   tickLines k l           a line for each tick of the frame l
---   countedStages l               the count that stands first in l, and as many stages after it: "stage count, then each direction and control"
+--   countedStages l         the count that stands first in l, and as many stages after it: "stage count, then each direction and control"
 --   Counted l               l is the places of a side from its count on
 --   Frames k l              the frame l has whole ticks, and is no longer than the longest
 --   writeCount s, readCount s     the places of either side of the sheet s from its count on

@@ -12,8 +12,8 @@ use Rattle.kinds.specs.declared.Refusal.{Refusal}
 use Rattle.text.specs.Decimal.{codes, decimal}
 use Rattle.sheet.specs.Sheet.{Stage, flat}
 use Rattle.promise.specs.Series.{wordsOfTick}
-use Rattle.plan.specs.Planned.{plannedRead, plannedWrite}
-use Rattle.trial.specs.Trial.{lampOrder}
+use Rattle.construction.specs.Planned.{plannedRead, plannedWrite}
+use Rattle.trial.specs.Trial.{wordsAsTheyLeave}
 use Rattle.lines.specs.Line.{line}
 
 abbrev pub stageLine : List ℕ → List Stage → List ℕ
@@ -25,7 +25,7 @@ tickLine k l c = line (decimal c ++ codes ":") (wordsOfTick k l c)
 abbrev pub listing : ℕ → ℕ → List ℕ → List ℕ
 listing n k C =
     line (codes "order") (n ∷ k ∷ []) ++ (stageLine (codes "write") (plannedWrite n k C .stages) ++ (stageLine (codes "read") (plannedRead n k C .stages)
-    ++ flatten (inOrder (ticks n k) (tickLine k (lampOrder n C)))))
+    ++ flatten (inOrder (ticks n k) (tickLine k (wordsAsTheyLeave n C)))))
 
 abbrev pub refusalLine : Refusal → List ℕ
 refusalLine x = line (codes "refused") (numberOf x ∷ [])

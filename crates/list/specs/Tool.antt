@@ -2,7 +2,7 @@
 --   textPlaces                   the places that a text buffer must have at least: enough for every listing
 --   listLengths t l        the lengths of the lent text buffer t and of the place l for the length of the text, and what is wanted of them
 -- For every decision d of whether the card b is readable:
---   listingOf d               the text for the order on the card
+--   listingOf d            the text for the order on the card
 --   textFor o d            the text where nothing is refused; where the refusal o is given, its line
 --   printed e d            what the program prints for the card: the text, or the refusal's line
 --   Lists e b t t' l l' r  the tool: r is 15, or the lowest of 1 to 4 that applies; done, the text stands from the first place of t' on, the rest of t' is as it came, and l' is its length;
@@ -14,7 +14,7 @@ use mathlib.Core.Path.{_≡_}
 use mathlib.Core.List.{List, [], _∷_}
 use mathlib.Core.Option.{Option, none, some}
 use lib.ListN.{length}
-use Rattle.kinds.specs.Answers.{Answers, onto}
+use Rattle.kinds.specs.Answers.{Answers, overFront}
 use Rattle.kinds.specs.Edition.{Edition}
 use Rattle.kinds.specs.First.{firstOf}
 use Rattle.kinds.specs.Refusal.{said}
@@ -36,7 +36,7 @@ listingOf d = listing (nOn d) (kOn d) (columnsOn d)
 abbrev pub Lists : Edition → List ℕ → List ℕ → List ℕ → List ℕ → List ℕ → Answer → Type 0
 Lists e b t t' l l' r =
     (d : Dec (Readable b))
-    → Answers (cardTable e d (listLengths t l)) (said r) ((t' ≡ onto (listingOf d) t) × (l' ≡ length (listingOf d) ∷ [])) ((t' ≡ t) × (l' ≡ l))
+    → Answers (cardTable e d (listLengths t l)) (said r) ((t' ≡ overFront (listingOf d) t) × (l' ≡ length (listingOf d) ∷ [])) ((t' ≡ t) × (l' ≡ l))
 
 abbrev pub textFor : {b : List ℕ} → Option Refusal → Dec (Readable b) → List ℕ
 textFor none d = listingOf d
@@ -47,7 +47,7 @@ printed e d = textFor (firstOf (cardTable e d [])) d
 
 pub record PrintsAs (e : Edition) {b : List ℕ} (d : Dec (Readable b)) (t t' : List ℕ) (r : ℕ) : Type 0 where
   pub length-of : r ≡ length (printed e d)
-  pub text : t' ≡ onto (printed e d) t
+  pub text : t' ≡ overFront (printed e d) t
 
 abbrev pub Prints : Edition → List ℕ → List ℕ → List ℕ → ℕ → Type 0
 Prints e b t t' r = (d : Dec (Readable b)) → PrintsAs e d t t' r

@@ -7,7 +7,8 @@ use lib.Count.{ones}
 use Rattle.kinds.specs.Decisions.{sized?, rightLengths?}
 use Rattle.kinds.specs.Frame.{inOrder}
 use Rattle.kinds.specs.First.{firstOf}
-use Rattle.kinds.specs.Search.{someBelow, eachBelow, those}
+use Rattle.kinds.specs.Decided.{someBelow, eachBelow}
+use Rattle.kinds.specs.Search.{those}
 use Rattle.bits.specs.Image.{image, columns}
 use Rattle.bits.specs.Decisions.{allBelow?}
 use Rattle.bits.specs.Parity.{parity, dot}
@@ -20,7 +21,7 @@ use Rattle.switches.specs.Stages.{afterStages}
 use Rattle.switches.specs.Written.{keptStages}
 use Rattle.faults.specs.Marks.{put}
 use Rattle.promise.specs.Run.{standing}
-use Rattle.plan.specs.Planned.{othersOfP1, portsToZero, keptOfP3, readStages}
+use Rattle.construction.specs.Planned.{othersOfP1, portsToZero, keptOfP3, readStages}
 use Rattle.lay.specs.Staged.{pairs}
 use Rattle.marked.specs.Cases.{EachAsSaid, markedCases}
 

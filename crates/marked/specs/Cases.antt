@@ -13,7 +13,7 @@ use Rattle.kinds.specs.Frame.{ticks, inOrder}
 use Rattle.kinds.specs.First.{firstOf}
 use Rattle.kinds.specs.Refusal.{given}
 use Rattle.sheet.specs.Sheet.{flat}
-use Rattle.plan.specs.Planned.{plannedRead, plannedWrite, plannedSheet}
+use Rattle.construction.specs.Planned.{plannedRead, plannedWrite, plannedSheet}
 use Rattle.plan.specs.Tool.{planTable}
 use Rattle.trial.specs.Trial.{leavesInTick}
 use Rattle.inspect.specs.Tool.{inspectTable}

@@ -5,7 +5,7 @@ use mathlib.Core.List.{[], _∷_, map}
 use native.Mathlib.Decide.{ℕ-discrete, decLe, decLt}
 use Rattle.kinds.specs.First.{firstOf}
 use Rattle.kinds.specs.Refusal.{given}
-use Rattle.kinds.specs.Search.{someBelow}
+use Rattle.kinds.specs.Decided.{someBelow}
 use Rattle.faults.specs.Marks.{put}
 use Rattle.faults.specs.Decisions.{countable?}
 use Rattle.memory.specs.Memory.{Memory, Access, served}

@@ -2,8 +2,7 @@
 ghost use mathlib.Core.Path.{_≡_};
 ghost use native.Mathlib.Decide.{decLe, ℕ-discrete};
 ghost use lib.ListN.{length, getD, set};
-ghost use Rattle.kinds.specs.Answers.{Says, onto};
-ghost use Rattle.kinds.specs.Decided.{ifHolds};
+ghost use Rattle.kinds.specs.Answers.{Says, overFront, ifHolds};
 ghost use Rattle.faults.specs.Marks.{put, withMarks};
 ghost use Rattle.memory.specs.Memory.{wordsAt, Fitting};
 ghost use Rattle.memory.specs.Serving.{Serves};
@@ -52,7 +51,7 @@ fn fitting(writes: usize, came: usize, reads: usize, out: usize) -> bool
 // Out of each cell goes its word, and its mark is cleared. Where `out` has too few places nothing is changed.
 pub fn take_out(cells: &[u32], out: &mut [u32], words: &[u32], marks: &mut [u8])
     ensures { λ r. ⌜ now (out .exit) ≡ ifHolds (decLe (length (now (cells .entry))) (length (now (out .entry))))
-        (onto (wordsAt (now (cells .entry)) (now (words .entry))) (now (out .entry))) (now (out .entry)) ⌝ }
+        (overFront (wordsAt (now (cells .entry)) (now (words .entry))) (now (out .entry))) (now (out .entry)) ⌝ }
     ensures { λ r. ⌜ now (marks .exit) ≡ ifHolds (decLe (length (now (cells .entry))) (length (now (out .entry))))
         (withMarks 0 (now (cells .entry)) (now (marks .entry))) (now (marks .entry)) ⌝ }
 {

@@ -1,23 +1,21 @@
 -- The meanings on cases of 01. At every n of the sizes bit reversal is undone by itself; from n 3 on Gray code is not: the last column comes back as
 -- 2^(n-1) + 2^(n-3), where it should be 2^(n-1). At n 3 it is undone by 1 3 7.
 -- Columns 4 4 at n 2 give 3, columns 1 1 give 4; n 0, n 11 and n 4294967295 give 1, and so do k 0, k 6 and n 2 with k 3; a column too few, and an output or a
--- frame too short, give 2, whatever the columns are. The parts of the order 2 4 8 1 at n 4, by their rows, with k 2, where t is 2, and with k 1, where t is 3.
+-- frame too short, give 2, whatever the columns are.
 use mathlib.Core.Path.{_≡_, refl}
 use mathlib.Core.List.{List, [], _∷_, map}
 use Prim.Native.Nat.{ℕ, _+_, _-_, _/_, _^_}
 use native.Mathlib.Decide.{ℕ-discrete, decLe}
 use lib.Bits.{bitXor}
 use lib.ListN.{getD}
-use Rattle.kinds.specs.Edition.{edition1}
+use Rattle.kinds.specs.Edition.{edition1, Sized}
 use Rattle.kinds.specs.Decisions.{sizedN?, sized?, rightLengths?}
 use Rattle.kinds.specs.Refusal.{given}
 use Rattle.kinds.specs.First.{firstOf}
 use Rattle.bits.specs.Image.{image, columns}
-use Rattle.kinds.specs.Search.{someBelow}
+use Rattle.kinds.specs.Decided.{someBelow}
 use Rattle.span.specs.Decisions.{independent?}
-use Rattle.span.specs.Rows.{rows}
 use Rattle.order.specs.Order.{place}
-use Rattle.order.specs.Parts.{rowsP1, rowsP2, rowsP3, rowsP4}
 use Rattle.order.specs.Table.{columnTable, orderTable, inverseTable, moverTable}
 
 abbrev reversal : ℕ → List ℕ
@@ -68,7 +66,7 @@ refused-frames : map (λ (C, frame, out). given (firstOf (moverTable edition1 1 
 unfolding image firstOf sizedN? decLe rightLengths? ℕ-discrete someBelow independent?
 refused-frames = refl
 
-refused-with-k : map (λ (n, k). given (firstOf (orderTable (sized? edition1 n k) n [] []))) (
+refused-with-k : map (λ (n, k). given (firstOf (orderTable (Sized edition1 n k) (sized? edition1 n k) n [] []))) (
     (10, 5) ∷ (10, 6) ∷ (10, 0) ∷ (2, 3) ∷ (11, 5) ∷ []
     ) ≡ 2 ∷ 1 ∷ 1 ∷ 1 ∷ 1 ∷ []
 unfolding image firstOf sizedN? sized? decLe rightLengths? ℕ-discrete someBelow independent?
@@ -80,14 +78,3 @@ refused-lists : map (λ (C, D). given (firstOf (columnTable 2 (C ∷ D ∷ []) [
     ) ≡ 0 ∷ 2 ∷ 3 ∷ 4 ∷ []
 unfolding image firstOf decLe rightLengths? ℕ-discrete someBelow independent?
 refused-lists = refl
-
-abbrev stride : List ℕ
-stride = 2 ∷ 4 ∷ 8 ∷ 1 ∷ []
-
-parts : (rowsP1 2 stride ≡ 0 ∷ 1 ∷ []) × (rowsP2 4 2 stride ≡ 2 ∷ 0 ∷ []) × (rowsP3 4 2 stride ≡ 2 ∷ 0 ∷ []) × (rowsP4 4 2 stride ≡ 0 ∷ 1 ∷ [])
-unfolding image columns rows
-parts = (refl, refl, refl, refl)
-
-narrow-parts : (rowsP1 1 stride ≡ 0 ∷ []) × (rowsP2 4 1 stride ≡ 4 ∷ []) × (rowsP3 4 1 stride ≡ 1 ∷ 0 ∷ 0 ∷ []) × (rowsP4 4 1 stride ≡ 0 ∷ 1 ∷ 2 ∷ [])
-unfolding image columns rows
-narrow-parts = (refl, refl, refl, refl)

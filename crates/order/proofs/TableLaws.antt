@@ -38,20 +38,20 @@ pub too-large : (n : ℕ) (C : List ℕ) → ¬ AllBelow (2 ^ n) C → ColumnToo
 too-large n C beyond = stable (tooLarge n C .decided) (λ small. beyond (not-large n C small))
 
 module _ {S : Type 0} (sized : Dec S) (n : ℕ) (C : List ℕ) where
-  pub outside-sizes : (fits : Bool) {r : Answer} → ¬ S → r ≡ Refused Sizes → Checks (orderTable sized n C) fits r
-  outside-sizes fits out e others f = ap said e ∙ sym (first-take (outside sized) (columnTable n (C ∷ []) others) out)
+  pub outside-sizes : (fits : Bool) {r : Answer} → ¬ S → r ≡ Refused Sizes → Checks (orderTable S sized n C) fits r
+  outside-sizes fits out e others f = ap said e ∙ sym (first-take (outside S sized) (columnTable n (C ∷ []) others) out)
 
-  pub within-sizes : (fits : Bool) {r : Checked} → S → ChecksColumns n C fits r → Checks (orderTable sized n C) fits (r .answer)
-  within-sizes fits s j others f = j .answer others f ∙ sym (first-skip (outside sized) (columnTable n (C ∷ []) others) (λ out. out s))
+  pub within-sizes : (fits : Bool) {r : Checked} → S → ChecksColumns n C fits r → Checks (orderTable S sized n C) fits (r .answer)
+  within-sizes fits s j others f = j .answer others f ∙ sym (first-skip (outside S sized) (columnTable n (C ∷ []) others) (λ out. out s))
 
-  pub order-ascending : (others : List (ℕ × Wanted)) → Ascending (orderTable sized n C others)
+  pub order-ascending : (others : List (ℕ × Wanted)) → Ascending (orderTable S sized n C others)
   order-ascending others =
       ((omega arith, (omega arith, (omega arith, tt))), ((omega arith, (omega arith, tt)), ((omega arith, tt), (tt, tt))))
 
-  pub order-sound : (others : List (ℕ × Wanted)) → firstOf (orderTable sized n C others) ≡ none ↔ (S × RightLengths others × Order n C)
+  pub order-sound : (others : List (ℕ × Wanted)) → firstOf (orderTable S sized n C others) ≡ none ↔ (S × RightLengths others × Order n C)
   order-sound others = (
     λ e.
-        let none-applies = first-none (orderTable sized n C others) .0 e in
+        let none-applies = first-none (orderTable S sized n C others) .0 e in
         let right = stable (rightLengths? ((length C, exactly n) ∷ others)) (none-applies .1 .0) in
         let order : Order n C = record {
           count = right .0;
@@ -60,7 +60,7 @@ module _ {S : Type 0} (sized : Dec S) (n : ℕ) (C : List ℕ) where
         } in
         (stable sized (none-applies .0), right .1, order),
     λ (s, right, order).
-        first-none (orderTable sized n C others) .1 (
+        first-none (orderTable S sized n C others) .1 (
           λ out. out s,
           (λ wrong. wrong (order .count, right), (λ (j, l, large). omega (arith, order .below j l), (λ d. d (order .independent), tt))),
         ),

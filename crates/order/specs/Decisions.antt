@@ -4,7 +4,7 @@ use Prim.Native.Nat.{ℕ, _^_}
 use mathlib.Core.List.{List}
 use native.Mathlib.Decide.{decLe}
 use lib.ListN.{length, getD}
-use Rattle.kinds.specs.Search.{someBelow}
+use Rattle.kinds.specs.Decided.{someBelow}
 use Rattle.order.specs.Order.{ColumnTooLarge}
 
 abbrev pub columnTooLarge? : (n : ℕ) (C : List ℕ) → Dec (ColumnTooLarge n C)

@@ -10,7 +10,7 @@ use mathlib.Core.Path.{_≡_}
 use mathlib.Core.Bool.{Bool}
 use mathlib.Core.List.{List, [], _∷_}
 use lib.ListN.{length, getD}
-use Rattle.kinds.specs.Edition.{edition1}
+use Rattle.kinds.specs.Edition.{edition1, SizedN}
 use Rattle.kinds.specs.Decisions.{sizedN?}
 use Rattle.kinds.specs.Answers.{Checks}
 use Rattle.kinds.specs.declared.Answer.the-variants.{Done}
@@ -29,7 +29,7 @@ pub record ChecksColumns (n : ℕ) (C : List ℕ) (fits : Bool) (r : Checked) : 
   pub holds : r .answer ≡ Done → Holds (r .scan) C
 
 pub record ChecksAndScans (n : ℕ) (C : List ℕ) (fits : Bool) (r : Checked) : Type 0 where
-  pub answer : Checks (orderTable (sizedN? edition1 n) n C) fits (r .answer)
+  pub answer : Checks (orderTable (SizedN edition1 n) (sizedN? edition1 n) n C) fits (r .answer)
   pub holds : r .answer ≡ Done → Holds (r .scan) C
 
 abbrev pub UndoesHeld : Scan → List ℕ → List ℕ → Type 0

@@ -2,18 +2,19 @@
 --   tooLarge n C              3: a column is 2^n or more
 --   dependent C               4: columns dependent
 --   columnTable n Cs others   2 to 4 of the lists of columns Cs, 2 for any of them, then 3 for any, then 4 for any, where the lengths lent beside them, and what they should be, are others
---   orderTable d n C others   1 to 4 of the one list C, where d decides whether the sizes are right
+--   orderTable S d n C others   1 to 4 of the one list C, where S says that the sizes are right, and d decides it
 --   inverseLengths n out, moverLengths n frame out          the lengths lent to the inverse and to the mover beside the columns
 --   inverseTable e n C out, moverTable e n C frame out      their tables: they take no k
 use Prim.Native.Nat.{ℕ, _^_}
 use mathlib.Core.List.{List, [], _∷_, _++_, map}
 use lib.ListN.{length}
-use Rattle.kinds.specs.Edition.{Edition}
+use Rattle.kinds.specs.Edition.{Edition, SizedN}
 use Rattle.kinds.specs.Decisions.{sizedN?}
 use Rattle.kinds.specs.First.{Reason, unless}
 use Rattle.kinds.specs.Reasons.{outside, wrongLength}
 use Rattle.kinds.specs.declared.Refusal.the-variants.{TooLarge, Dependent}
 use Rattle.kinds.specs.Lengths.{Wanted, exactly}
+use Rattle.span.specs.Sums.{Independent}
 use Rattle.span.specs.Decisions.{independent?}
 use Rattle.order.specs.Order.{ColumnTooLarge}
 use Rattle.order.specs.Decisions.{columnTooLarge?}
@@ -22,13 +23,13 @@ abbrev pub tooLarge : ℕ → List ℕ → Reason
 tooLarge n C = record { refusal = TooLarge; applies = ColumnTooLarge n C; decided = columnTooLarge? n C }
 
 abbrev pub dependent : List ℕ → Reason
-dependent C = unless Dependent (independent? C)
+dependent C = unless Dependent (Independent C) (independent? C)
 
 abbrev pub columnTable : ℕ → List (List ℕ) → List (ℕ × Wanted) → List Reason
 columnTable n Cs others = wrongLength (map (λ C. (length C, exactly n)) Cs ++ others) ∷ map (tooLarge n) Cs ++ map dependent Cs
 
-abbrev pub orderTable : {S : Type 0} → Dec S → ℕ → List ℕ → List (ℕ × Wanted) → List Reason
-orderTable sized n C others = outside sized ∷ columnTable n (C ∷ []) others
+abbrev pub orderTable : (S : Type 0) → Dec S → ℕ → List ℕ → List (ℕ × Wanted) → List Reason
+orderTable S d n C others = outside S d ∷ columnTable n (C ∷ []) others
 
 abbrev pub inverseLengths : ℕ → List ℕ → List (ℕ × Wanted)
 inverseLengths n out = (length out, exactly n) ∷ []
@@ -37,7 +38,7 @@ abbrev pub moverLengths : ℕ → List ℕ → List ℕ → List (ℕ × Wanted)
 moverLengths n frame out = (length frame, exactly (2 ^ n)) ∷ (length out, exactly (2 ^ n)) ∷ []
 
 abbrev pub inverseTable : Edition → ℕ → List ℕ → List ℕ → List Reason
-inverseTable e n C out = orderTable (sizedN? e n) n C (inverseLengths n out)
+inverseTable e n C out = orderTable (SizedN e n) (sizedN? e n) n C (inverseLengths n out)
 
 abbrev pub moverTable : Edition → ℕ → List ℕ → List ℕ → List ℕ → List Reason
-moverTable e n C frame out = orderTable (sizedN? e n) n C (moverLengths n frame out)
+moverTable e n C frame out = orderTable (SizedN e n) (sizedN? e n) n C (moverLengths n frame out)

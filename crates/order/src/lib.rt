@@ -4,7 +4,7 @@ ghost use mathlib.Core.List.{[], _∷_};
 ghost use Prim.Native.Nat.{_^_};
 ghost use lib.ListN.{length};
 ghost use Rattle.kinds.specs.Answers.{Says, Checks};
-ghost use Rattle.kinds.specs.Edition.{edition1};
+ghost use Rattle.kinds.specs.Edition.{edition1, SizedN, Sized};
 ghost use Rattle.kinds.specs.Decisions.{sizedN?, sized?};
 ghost use Rattle.kinds.specs.Lengths.{exactly, RightLengths};
 ghost use Rattle.order.specs.Order.{Moved};
@@ -17,7 +17,7 @@ use span::Scan;
 
 // Of an order without k: 1 to 4. `fits` says whether every other length that the tool was lent is right.
 pub fn check(n: u32, columns: &[u16], fits: bool) -> Answer
-    ensures { λ r. ⌜ Checks (orderTable (sizedN? edition1 n) n (now (columns .entry))) fits r ⌝ }
+    ensures { λ r. ⌜ Checks (orderTable (SizedN edition1 n) (sizedN? edition1 n) n (now (columns .entry))) fits r ⌝ }
 {
     let checked = check_and_scan(n, columns, fits);
     checked.answer
@@ -25,7 +25,7 @@ pub fn check(n: u32, columns: &[u16], fits: bool) -> Answer
 
 // Of an order with k: 1 to 4.
 pub fn check_with_k(n: u32, k: u32, columns: &[u16], fits: bool) -> Answer
-    ensures { λ r. ⌜ Checks (orderTable (sized? edition1 n k) n (now (columns .entry))) fits r ⌝ }
+    ensures { λ r. ⌜ Checks (orderTable (Sized edition1 n k) (sized? edition1 n k) n (now (columns .entry))) fits r ⌝ }
 {
     if !kinds::sized(n, k) {
         return Answer::Refused(Refusal::Sizes);

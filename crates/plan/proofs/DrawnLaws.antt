@@ -24,7 +24,7 @@ use Rattle.sheet.proofs.LayLaws.{flat-from}
 use Rattle.switches.specs.Stages.{afterStages}
 use Rattle.switches.specs.Cells.{portToBank, tickToBank}
 use Rattle.switches.proofs.CellLaws.{address-of-cell, bank-of-cell}
-use Rattle.plan.specs.Planned.{readWith, mWith}
+use Rattle.construction.specs.Planned.{readWith, mWith}
 use Rattle.plan.specs.Inside.{bankThrough}
 
 module _ (n k : ℕ) (ss : List Stage) (C : List ℕ) (within : k ≤ n) (order : Order n C) (read : InRange n k (readWith n k ss)) where

@@ -1,9 +1,4 @@
--- Laws of the planned sheet.
-pub mod WithLaws
-pub mod ChoiceLaws
-pub mod WiringLaws
-pub mod PlannedLaws
+-- Laws of the planner: what it reads off one scan, what it draws, and what follows from its contract.
 pub mod ListedLaws
 pub mod DrawnLaws
 pub mod ToolLaws
-pub mod Cases

@@ -18,13 +18,13 @@ use Rattle.span.specs.Scan.{keptAt, others, mask}
 use Rattle.span.specs.Rows.{dots, takenOn}
 use Rattle.span.proofs.ScanLaws.{kept-those, IsKept-prefix, sumBefore?, IsKept}
 use Rattle.span.proofs.TakenLaws.{taken-kept}
-use Rattle.order.specs.Parts.{P1, P3, rowsP1, rowsP3}
-use Rattle.order.proofs.PartLaws.{rowsOf-below}
-use Rattle.order.proofs.RowLaws.{P1-count, P3-count}
-use Rattle.plan.specs.Planned.{othersOfP1, portsToZero, keptOfP3}
+use Rattle.parts.specs.Parts.{P1, P3, rowsP1, rowsP3}
+use Rattle.parts.proofs.PartLaws.{rowsOf-below}
+use Rattle.parts.proofs.RowLaws.{P1-count, P3-count}
+use Rattle.construction.specs.Planned.{othersOfP1, portsToZero, keptOfP3}
 use Rattle.rows.specs.Listed.{keptIn, keptNumbers}
 use Rattle.rows.proofs.KeptLaws.{told}
-use Rattle.plan.proofs.ChoiceLaws.{zero-ports}
+use Rattle.construction.proofs.ChoiceLaws.{zero-ports}
 
 module _ (n k : ℕ) (C : List ℕ) (within : k ≤ n) where
   abbrev R : List ℕ

@@ -8,13 +8,10 @@
 --   with-before       refused, it is the refusal of the sheet with given read stages too
 --   with-out          done, and a stage is out of its range: 5
 --   with-in           done, and all are in range: so is the answer, once the sheet is written
---   with-right        the sheet with given read stages is right for the order, if the wiring that they leave sends no two ports to one bank
---   with-fewest       and then a planned sheet has no more read stages than it
 use Prim.Native.Nat.{ℕ, _≤_}
 use mathlib.Core.Path.{_≡_, sym, ap, _∙_}
 use mathlib.Core.List.{List, [], _∷_}
 use mathlib.Core.Option.{none, some}
-use native.Mathlib.Omega.{arith}
 use lib.ListN.{length}
 use Rattle.kinds.specs.Edition.{Edition, edition1, Sized, sheetPlaces}
 use Rattle.kinds.specs.Decisions.{sized?}
@@ -28,17 +25,14 @@ use Rattle.kinds.proofs.FirstLaws.{first-nil, first-take, first-skip, first-non
 use Rattle.kinds.proofs.AnswerLaws.{said-same, said-before, does, done-by, answers-done, answers-same, answers-agree}
 use Rattle.order.specs.Order.{Order}
 use Rattle.order.proofs.TableLaws.{order-sound}
-use Rattle.sheet.specs.Sheet.{Stage, Side, readSide}
+use Rattle.sheet.specs.Sheet.{Stage}
 use Rattle.sheet.specs.Table.{sheetLengths}
-use Rattle.promise.specs.Right.{Right}
-use Rattle.promise.proofs.ExactLaws.{realises-right}
 use Rattle.lay.specs.Staged.{ShowsStages}
 use Rattle.lay.specs.declared.Stages.{Stages}
-use Rattle.plan.specs.Planned.{StagesInRange, sheetWith, plannedSheet}
-use Rattle.plan.specs.Tool.{planTable, outOfRange, withTable, IsPlanned, Plans, PlansWith}
+use Rattle.construction.specs.Planned.{StagesInRange, sheetWith, plannedSheet, IsPlanned}
+use Rattle.plan.specs.Tool.{planTable, outOfRange, withTable, Plans, PlansWith}
 use Rattle.plan.specs.Inside.{Plannable}
-use Rattle.plan.proofs.WithLaws.{Wires, wires-vanish, with-read, with-formed, with-passes}
-use Rattle.plan.proofs.PlannedLaws.{planned}
+use Rattle.construction.proofs.PlannedLaws.{planned}
 
 module _ (e : Edition) (n k : ℕ) (C s : List ℕ) where
   pub plans-unique : (a b : List ℕ) (r q : Answer) → Plans e n k C s a r → Plans e n k C s b q → (r ≡ q) × (a ≡ b)
@@ -82,16 +76,3 @@ module _ (n k : ℕ) (C s : List ℕ) {a : Answer} (says : said a ≡ firstOf (p
     pub with-in : a ≡ Done → StagesInRange n k ss → {s' : List ℕ} → s' ≡ sheetWith edition1 n k ss C
         → Answers (withTable edition1 n k ss C s) (said a) (s' ≡ sheetWith edition1 n k ss C) (s' ≡ s)
     with-in done range = does done (ap said done ∙ sym (passed done ∙ first-skip (outOfRange n k ss) [] (λ out. out range) ∙ first-nil))
-
-module _ {e : Edition} {n k : ℕ} {C : List ℕ} (ss : List Stage) (sized : Sized e n k) (order : Order n C) (room : e .most-k ≤ e .most-stages)
-    (range : StagesInRange n k ss) (few : length ss ≤ e .most-stages) (wires : Wires k ss C) where
-  pub with-right : Right e n k C (sheetWith e n k ss C)
-  with-right = realises-right (omega (arith, sized .most)) order (with-formed sized order room ss range few) (with-passes sized order room ss range few (wires-vanish k ss C wires))
-
-  pub with-fewest : {s : List ℕ} → IsPlanned e n k C s → length (readSide e n k s .stages) ≤ length ss
-  with-fewest is =
-      omega (
-        arith,
-        is .fewest (sheetWith e n k ss C) (with-formed sized order room ss range few) with-right,
-        ap (λ (S : Side). length (S .stages)) (with-read sized order room ss range few),
-      )

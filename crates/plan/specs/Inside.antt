@@ -23,7 +23,7 @@ use Rattle.sheet.specs.Sheet.{Stage, stagesFrom, laidOut}
 use Rattle.switches.specs.Stages.{afterStages}
 use Rattle.lay.specs.Staged.{ShowsStages}
 use Rattle.lay.specs.declared.Stages.{Stages}
-use Rattle.plan.specs.Planned.{StagesInRange, readWith, writeWith, sheetWith}
+use Rattle.construction.specs.Planned.{StagesInRange, readWith, writeWith, sheetWith}
 use Rattle.plan.specs.declared.Cells.{Cells}
 
 abbrev pub SaysInRange : ℕ → ℕ → Stages → Bool → Type 0

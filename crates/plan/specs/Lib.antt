@@ -1,4 +1,3 @@
--- The planned sheet, and what the planner promises.
-pub mod Planned
+-- What the planner promises.
 pub mod Tool
 pub mod Inside

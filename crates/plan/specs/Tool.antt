@@ -1,49 +1,33 @@
 -- What the planner promises.
 --   planTable e n k C s     "Planner: 1 to 4"
---   IsPlanned e n k C s     s is the planned sheet, number for number; it has the places of a sheet, is well-formed, and right for the order C; it has exactly k - rank P1 read stages, and no
---                           well-formed sheet that is right for the order has fewer
 --   outOfRange n k ss       5: a stage of ss is out of its range, and so no sheet that has it keeps the layout
 --   withTable e n k ss C s  1 to 4, and this
 --   PlansWith e n k o C s s' r    the sheet with given read stages: for whichever stages o shows, r is the lowest of 1 to 5 that applies; done, s' is the sheet with these; refused, s' is s
 --   Plans e n k C s s' r    the planner: r is the lowest of 1 to 4 that applies; done, s' is planned for the order; refused, s' is s. s' is what the lent sheet s holds afterwards
-use Prim.Native.Nat.{ℕ, _+_, _≤_, _^_}
+use Prim.Native.Nat.{ℕ, _^_}
 use mathlib.Core.Path.{_≡_}
 use mathlib.Core.List.{List, [], _∷_, _++_}
-use lib.ListN.{length}
 use Rattle.kinds.specs.Answers.{Answers}
-use Rattle.kinds.specs.Edition.{Edition, sheetPlaces}
+use Rattle.kinds.specs.Edition.{Edition, Sized}
 use Rattle.kinds.specs.Decisions.{sized?}
 use Rattle.kinds.specs.Frame.{tickBits}
 use Rattle.kinds.specs.First.{Reason, unless}
 use Rattle.kinds.specs.Refusal.{said}
 use Rattle.kinds.specs.declared.Answer.{Answer}
 use Rattle.kinds.specs.declared.Refusal.the-variants.{Layout}
-use Rattle.span.specs.Scan.{rank}
-use Rattle.order.specs.Parts.{rowsP1}
 use Rattle.order.specs.Table.{orderTable}
-use Rattle.sheet.specs.Sheet.{Stage, readSide}
-use Rattle.sheet.specs.Layout.{WellFormed}
+use Rattle.sheet.specs.Sheet.{Stage}
 use Rattle.sheet.specs.Decisions.{stageInRange?, eachStage?}
 use Rattle.sheet.specs.Table.{sheetLengths}
 use Rattle.lay.specs.Staged.{ShowsStages}
 use Rattle.lay.specs.declared.Stages.{Stages}
-use Rattle.promise.specs.Right.{Right}
-use Rattle.plan.specs.Planned.{sheetWith, plannedSheet}
+use Rattle.construction.specs.Planned.{StagesInRange, sheetWith, IsPlanned}
 
 abbrev pub planTable : Edition → ℕ → ℕ → List ℕ → List ℕ → List Reason
-planTable e n k C s = orderTable (sized? e n k) n C (sheetLengths e s)
-
-pub record IsPlanned (e : Edition) (n k : ℕ) (C s : List ℕ) : Type 0 where
-  pub constructed : s ≡ plannedSheet e n k C
-  pub places : length s ≡ sheetPlaces e
-  pub formed : WellFormed e n k s
-  pub right : Right e n k C s
-  pub stages : rank (rowsP1 k C) + length (readSide e n k s .stages) ≡ k
-  pub fewest : (other : List ℕ) → WellFormed e n k other → Right e n k C other
-      → length (readSide e n k s .stages) ≤ length (readSide e n k other .stages)
+planTable e n k C s = orderTable (Sized e n k) (sized? e n k) n C (sheetLengths e s)
 
 abbrev pub outOfRange : ℕ → ℕ → List Stage → Reason
-outOfRange n k ss = unless Layout (eachStage? (stageInRange? (2 ^ k) (2 ^ tickBits n k)) ss)
+outOfRange n k ss = unless Layout (StagesInRange n k ss) (eachStage? (stageInRange? (2 ^ k) (2 ^ tickBits n k)) ss)
 
 abbrev pub withTable : Edition → ℕ → ℕ → List Stage → List ℕ → List ℕ → List Reason
 withTable e n k ss C s = planTable e n k C s ++ (outOfRange n k ss ∷ [])

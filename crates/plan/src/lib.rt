@@ -7,7 +7,7 @@ ghost use Rattle.kinds.specs.Frame.{tickOf};
 ghost use Rattle.bits.specs.Padded.{arrayWidth};
 ghost use Rattle.switches.specs.Written.{keptStages};
 ghost use Rattle.lay.specs.Staged.{staged};
-ghost use Rattle.plan.specs.Planned.{readStages};
+ghost use Rattle.construction.specs.Planned.{readStages};
 ghost use Rattle.plan.specs.Tool.{Plans, PlansWith};
 ghost use Rattle.plan.specs.Inside.{SaysInRange, Ordered, Plannable, ReadRoom, WriteRoom, WritesSheet, LaysRead, LaysWrite, bankThrough, drawn};
 use kinds::Addr;

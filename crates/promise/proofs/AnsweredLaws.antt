@@ -70,15 +70,15 @@ module _ (n k : ℕ) (f g : ℕ → ℕ) (st : State) (ws : List ℕ) (m : Memor
 
     leaves-seen : {p w : ℕ} → LeavesBy (accessOf n k f g st ws) m p w → Leaves (seenOf (call [] n k f g st ws m)) p w
     leaves-seen {p} by = record {
-      handed = ap (λ (o : Outcome). o .handed) (call-done [] n k f g st ws m ok) ∙ some-read (reading (ticks n k) st) _ p (by .port);
-      port = rw leaving (rw same-length (by .port));
-      word = ap (λ (l : List ℕ). getD l p 0) leaving ∙ words-at reads (m .words) p (by .port) ∙ by .word;
+      handed = ap (λ (o : Outcome). o .handed) (call-done [] n k f g st ws m ok) ∙ some-read (reading (ticks n k) st) _ p (by .0);
+      port = rw leaving (rw same-length (by .0));
+      word = ap (λ (l : List ℕ). getD l p 0) leaving ∙ words-at reads (m .words) p (by .0) ∙ by .1;
     }
 
     seen-leaves : {p w : ℕ} → Leaves (seenOf (call [] n k f g st ws m)) p w → LeavesBy (accessOf n k f g st ws) m p w
     seen-leaves {p} seen =
         let port : p < length reads = rw same-length at (rw leaving at (seen .port)) in
-        record { port = port; word = sym (ap (λ (l : List ℕ). getD l p 0) leaving ∙ words-at reads (m .words) p port) ∙ seen .word }
+        (port, sym (ap (λ (l : List ℕ). getD l p 0) leaving ∙ words-at reads (m .words) p port) ∙ seen .word)
 
 module _ (n k : ℕ) (f g : ℕ → ℕ → ℕ) (x : Stand) (S : List (List ℕ)) where
   abbrev at : ℕ → Stand

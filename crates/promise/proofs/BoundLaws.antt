@@ -16,8 +16,8 @@ use Rattle.span.specs.Scan.{rank}
 use Rattle.span.proofs.RankLaws.{bijection-rank, rank-same, rank-xor, rank-after-inner}
 use Rattle.span.proofs.RowRankLaws.{rank-rows}
 use Rattle.order.specs.Order.{place, Order}
-use Rattle.order.specs.Parts.{P1, P3, rowsP1}
-use Rattle.order.proofs.PartLaws.{P1-into}
+use Rattle.parts.specs.Parts.{P1, P3, rowsP1}
+use Rattle.parts.proofs.PartLaws.{P1-into}
 use Rattle.sheet.specs.Sheet.{Side, writeSide, readSide}
 use Rattle.sheet.specs.Layout.{InRange, WellFormed}
 use Rattle.switches.specs.Cells.{cellOf}

@@ -16,7 +16,7 @@ use Rattle.kinds.specs.Frame.{tickBits, ticks}
 use Rattle.kinds.proofs.FrameLaws.{frame-whole}
 use Rattle.kinds.proofs.TruthLaws.{false≢true}
 use Rattle.state.specs.Clocks.{PossibleClock, readOn, nextClock, Completes}
-use Rattle.state.specs.States.{came}
+use Rattle.state.specs.States.{wordsCame}
 use Rattle.state.specs.declared.Clock.{Clock}
 use Rattle.state.proofs.ClockLaws.{clock-blank, clock-part, clock-full, clock-possible}
 use Rattle.call.proofs.PlaceLaws.{came-all}
@@ -30,17 +30,17 @@ module _ (n k : ℕ) (S : List (List ℕ)) where
     pub counted : wordsBefore S j ≡ incoming n S j * 2 ^ n + c .a * 2 ^ k
 
   abbrev pub clockAfter : ℕ → Clock → Clock
-  clockAfter j c = nextClock (ticks n k) c (came (callAt S j))
+  clockAfter j c = nextClock (ticks n k) c (wordsCame (callAt S j))
 
   pub record Stays (j : ℕ) (c : Clock) : Type 0 where
     pub frame : incoming n S (suc j) ≡ incoming n S j
     pub reader : clockAfter j c .r ≡ readOn (ticks n k) c .r
-    pub part : ¬ Completes (ticks n k) c (came (callAt S j))
+    pub part : ¬ Completes (ticks n k) c (wordsCame (callAt S j))
 
   pub record Turns (j : ℕ) (c : Clock) : Type 0 where
     pub frame : incoming n S (suc j) ≡ incoming n S j + 1
     pub reader : clockAfter j c .r ≡ 0
-    pub full : Completes (ticks n k) c (came (callAt S j))
+    pub full : Completes (ticks n k) c (wordsCame (callAt S j))
 
 module _ {n k : ℕ} (within : k ≤ n) {S : List (List ℕ)} {j : ℕ} {c : Clock} (now : Counted n k S j c) where
   abbrev T : ℕ
@@ -57,26 +57,26 @@ module _ {n k : ℕ} (within : k ≤ n) {S : List (List ℕ)} {j : ℕ} {c : Clo
       → (incoming n S (suc j) ≡ F) × Counted n k S (suc j) after
   counted-by F a r is e l =
       let frame = frame-of F a e l in
-      (frame, record { possible = clock-possible T c (came (callAt S j)) (now .possible); counted = e ∙ ap₂ (λ (b d : ℕ). b * 2 ^ n + d * 2 ^ k) (sym frame) (sym (ap (λ (x : Clock). x .a) is)) })
+      (frame, record { possible = clock-possible T c (wordsCame (callAt S j)) (now .possible); counted = e ∙ ap₂ (λ (b d : ℕ). b * 2 ^ n + d * 2 ^ k) (sym frame) (sym (ap (λ (x : Clock). x .a) is)) })
 
   pub counted-call : j < length S → WholeTick k (callAt S j) → (Stays n k S j c ⊎ Turns n k S j c) × Counted n k S (suc j) after
   counted-call reach whole = go (callAt S j) refl
     where
       go : (ws : List ℕ) → callAt S j ≡ ws → (Stays n k S j c ⊎ Turns n k S j c) × Counted n k S (suc j) after
       go [] e =
-          let clock : after ≡ _ = ap (λ (l : List ℕ). nextClock T c (came l)) e ∙ clock-blank T c (now .possible .incoming) in
+          let clock : after ≡ _ = ap (λ (l : List ℕ). nextClock T c (wordsCame l)) e ∙ clock-blank T c (now .possible .incoming) in
           let (frame, then) = counted-by (incoming n S j) (c .a) _ clock (omega (arith, before-more S j reach, ap length e, now .counted)) (now .possible .incoming) in
-          (inl (record { frame = frame; reader = ap (λ (x : Clock). x .r) clock; part = λ full. false≢true (sym (ap came e) ∙ full .words) }), then)
+          (inl (record { frame = frame; reader = ap (λ (x : Clock). x .r) clock; part = λ full. false≢true (sym (ap wordsCame e) ∙ full .words) }), then)
       go (w ∷ ws) e =
           let brings : length (callAt S j) ≡ 2 ^ k = ap length e ∙ came-all (2 ^ k) w ws (rw e at whole) in
           let more : wordsBefore S (suc j) ≡ incoming n S j * 2 ^ n + (c .a + 1) * 2 ^ k = omega (arith, before-more S j reach, brings, now .counted, add-mul (c .a) 1 (2 ^ k)) in
           elim (ℕ-discrete (c .a + 1) T) [
             | yes full ↦
-                let clock : after ≡ _ = ap (λ (l : List ℕ). nextClock T c (came l)) e ∙ clock-full T c full in
+                let clock : after ≡ _ = ap (λ (l : List ℕ). nextClock T c (wordsCame l)) e ∙ clock-full T c full in
                 let (frame, then) = counted-by (incoming n S j + 1) 0 _ clock (omega (arith, more, rw full at more, frame-whole within, add-mul (incoming n S j) 1 (2 ^ n))) (pow-pos (tickBits n k)) in
-                (inr (record { frame = frame; reader = ap (λ (x : Clock). x .r) clock; full = record { possible = now .possible; words = ap came e; last = full } }), then)
+                (inr (record { frame = frame; reader = ap (λ (x : Clock). x .r) clock; full = record { possible = now .possible; words = ap wordsCame e; last = full } }), then)
             | no part ↦
-                let clock : after ≡ _ = ap (λ (l : List ℕ). nextClock T c (came l)) e ∙ clock-part T c part in
+                let clock : after ≡ _ = ap (λ (l : List ℕ). nextClock T c (wordsCame l)) e ∙ clock-part T c part in
                 let l : c .a + 1 < T = omega (arith, part, now .possible .incoming) in
                 let (frame, then) = counted-by (incoming n S j) (c .a + 1) _ clock more l in
                 (inl (record { frame = frame; reader = ap (λ (x : Clock). x .r) clock; part = λ full. part (full .last) }), then)

@@ -15,7 +15,7 @@ use Rattle.kinds.specs.Frame.{tickBits, ticks}
 use Rattle.kinds.proofs.FrameLaws.{tick-lt}
 use Rattle.span.specs.Scan.{rank}
 use Rattle.order.specs.Order.{place, Order}
-use Rattle.order.specs.Parts.{rowsP1}
+use Rattle.parts.specs.Parts.{rowsP1}
 use Rattle.order.proofs.OrderLaws.{order-bijection}
 use Rattle.sheet.specs.Sheet.{readSide}
 use Rattle.sheet.specs.Layout.{WellFormed}

@@ -23,8 +23,8 @@ use Rattle.kinds.specs.Answers.{Says}
 use Rattle.kinds.specs.Refusal.{given}
 use Rattle.kinds.proofs.FrameLaws.{tick-lt}
 use Rattle.span.specs.Maps.{Into}
-use Rattle.state.specs.Clocks.{reads, Completes}
-use Rattle.state.specs.States.{came}
+use Rattle.state.specs.Clocks.{clockReading, Completes}
+use Rattle.state.specs.States.{wordsCame}
 use Rattle.state.specs.declared.Clock.{Clock}
 use Rattle.promise.proofs.SeriesLaws.{WholeTicks, before-none}
 use Rattle.promise.specs.Series.{callAt, wordIn, TickDue}
@@ -40,12 +40,12 @@ module _ (n k : ℕ) (S : List (List ℕ)) (P : ℕ → ℕ → ℕ) {Y : Type 0
 
   pub record Keeps : Type 0 where
     pub goes : {j : ℕ} {y : Y} → j < length S → Now j y → clock (after j y) ≡ clockAfter n k S j (clock y)
-    pub hands : {j : ℕ} {y : Y} → j < length S → Now j y → seen j y .handed ≡ reads (ticks n k) (clock y)
+    pub hands : {j : ℕ} {y : Y} → j < length S → Now j y → seen j y .handed ≡ clockReading (ticks n k) (clock y)
     pub sound : {j : ℕ} {y : Y} → j < length S → Now j y → seen j y .refusal ≡ none
     pub word : {j : ℕ} {y : Y} → j < length S → Now j y → (i : ℕ) → i < 2 ^ n → tickOf k (P (outgoing n S j) i) ≡ clock y .r
         → Leaves (seen j y) (portOf k (P (outgoing n S j) i)) (wordIn n S (outgoing n S j) i)
-    pub stays : {j : ℕ} {y : Y} → j < length S → Now j y → ¬ Completes (ticks n k) (clock y) (came (callAt S j)) → Held (incoming n S j) (outgoing n S j) (after j y)
-    pub turns : {j : ℕ} {y : Y} → j < length S → Now j y → Completes (ticks n k) (clock y) (came (callAt S j)) → Held (incoming n S j + 1) (incoming n S j) (after j y)
+    pub stays : {j : ℕ} {y : Y} → j < length S → Now j y → ¬ Completes (ticks n k) (clock y) (wordsCame (callAt S j)) → Held (incoming n S j) (outgoing n S j) (after j y)
+    pub turns : {j : ℕ} {y : Y} → j < length S → Now j y → Completes (ticks n k) (clock y) (wordsCame (callAt S j)) → Held (incoming n S j + 1) (incoming n S j) (after j y)
 
 module _ {n k : ℕ} (within : k ≤ n) {S : List (List ℕ)} (whole : WholeTicks k S) {P : ℕ → ℕ → ℕ} (into : (F : ℕ) → Into (P F) (2 ^ n) (2 ^ n))
     {Y : Type 0} {clock : Y → Clock} {seen : ℕ → Y → Seen} {after : ℕ → Y → Y} {Held : ℕ → ℕ → Y → Type 0} (keeps : Keeps n k S P clock seen after Held)

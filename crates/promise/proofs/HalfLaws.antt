@@ -26,7 +26,7 @@ use Rattle.kinds.proofs.TruthLaws.{false≢true}
 use Rattle.span.specs.Maps.{Injective, Bijection}
 use Rattle.span.proofs.Counting.{injective-onto}
 use Rattle.state.specs.Clocks.{Completes}
-use Rattle.state.specs.States.{clockOf, Possible, came, next}
+use Rattle.state.specs.States.{clockOf, Possible, wordsCame, next}
 use Rattle.state.specs.declared.State.{State}
 use Rattle.state.proofs.StateLaws.{afterRead, afterWrite, turned, next-possible}
 use Rattle.faults.specs.Marks.{Filled, put, withMarks}
@@ -111,11 +111,11 @@ module _ {T : ℕ} {st : State} (ok : Possible T st) where
     | no idle ↦ rw (le-ltb (st .r) T (omega arith)) (omega arith)
   ]
 
-  part : (ws : List ℕ) → ¬ Completes T (clockOf st) (came ws) → afterWrite (afterRead T st) ws .a ≢ T
+  part : (ws : List ℕ) → ¬ Completes T (clockOf st) (wordsCame ws) → afterWrite (afterRead T st) ws .a ≢ T
   part [] not full = omega (arith, read-state)
   part (x ∷ ws) not full = not (record { possible = ok .clock; words = refl; last = omega (arith, read-state) })
 
-  whole : (ws : List ℕ) → Completes T (clockOf st) (came ws)
+  whole : (ws : List ℕ) → Completes T (clockOf st) (wordsCame ws)
       → (afterWrite (afterRead T st) ws .a ≡ T) × (afterWrite (afterRead T st) ws .r ≡ T) × (afterWrite (afterRead T st) ws .h < 2)
   whole [] full = absurd (false≢true (full .words))
   whole (x ∷ ws) full = omega (arith, read-state, full .last)
@@ -287,13 +287,13 @@ module _ {n k : ℕ} (within : k ≤ n) where
           )
 
       module _ {ws : List ℕ} (brings : Brings k (st .a) w ws) where
-        pub held-stays : ¬ Completes (ticks n k) (clockOf st) (came ws) → Held n k (next (ticks n k) st ws) (served (accessOf n k f e st ws) m) f w Q d v
+        pub held-stays : ¬ Completes (ticks n k) (clockOf st) (wordsCame ws) → Held n k (next (ticks n k) st ws) (served (accessOf n k f e st ws) m) f w Q d v
         held-stays not = record {
           possible = next-possible (ticks n k) st ws (held .possible);
           halves = rw (ne-eqb _ (ticks n k) (part (held .possible) ws not)) (after-both (held .possible) brings (held .halves));
         }
 
-        pub held-turns : Completes (ticks n k) (clockOf st) (came ws) → {f' w' : ℕ → ℕ} → ((i : ℕ) → f' i < 2 ^ n)
+        pub held-turns : Completes (ticks n k) (clockOf st) (wordsCame ws) → {f' w' : ℕ → ℕ} → ((i : ℕ) → f' i < 2 ^ n)
             → Held n k (next (ticks n k) st ws) (served (accessOf n k f e st ws) m) f' w' P f w
         held-turns full into = record {
           possible = next-possible (ticks n k) st ws (held .possible);

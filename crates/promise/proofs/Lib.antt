@@ -12,9 +12,9 @@ pub mod OneFrame
 pub mod OneRun
 pub mod RealiseLaws
 pub mod RightLaws
+pub mod SeenLaws
+pub mod ConservedLaws
 pub mod BoundLaws
 pub mod ExactLaws
 pub mod SheetLaws
-pub mod ToolLaws
-pub mod CallerLaws
 pub mod Cases

@@ -6,22 +6,18 @@
 --   seenAt comes x j          and what is seen of it
 -- The calls that can be made of a series S:
 --   called n k f g S j y      call j, with 11 to 14 refused, where f F i is the cell to which word i of frame F is written, and g F q the cell that is read for its place q
---   toolCall e n k s S out j y       call j of the run as a tool, with the sheet s; out j is the out buffer that is lent
---   calledOn e n k s S     the calls with a sheet, which has M and N for every frame
+--   calledOn e n k s S        the calls with a sheet, which has M and N for every frame
 --   freshStand n k            the fresh stand over zeros
 -- When it is right:
 --   RightAnswered e n k C s   the run of the sheet, with 11 to 14 refused, is right by what is seen
---   RightAsTool e n k C s     so is the run as a tool, whatever out buffers of 2^k places are lent
-use Prim.Native.Nat.{ℕ, _+_, _^_, _<_}
-use mathlib.Core.Path.{_≡_}
+use Prim.Native.Nat.{ℕ, _+_, _^_}
 use mathlib.Core.List.{List, []}
-use lib.ListN.{length, replicate}
+use lib.ListN.{replicate}
 use Rattle.kinds.specs.Edition.{Edition}
 use Rattle.kinds.specs.Frame.{ticks}
 use Rattle.order.specs.Order.{place}
 use Rattle.switches.specs.Cells.{M, N}
 use Rattle.call.specs.Call.{Outcome, call}
-use Rattle.run.specs.Tool.{sheetCall}
 use Rattle.promise.specs.Series.{Series, callAt}
 use Rattle.promise.specs.Seen.{Seen, RightOver}
 use Rattle.promise.specs.Run.{Stand, Fresh, standing, incoming, outgoing}
@@ -45,9 +41,6 @@ module _ (comes : ℕ → Stand → Outcome) (x : Stand) (j : ℕ) where
 abbrev pub called : ℕ → ℕ → (ℕ → ℕ → ℕ) → (ℕ → ℕ → ℕ) → List (List ℕ) → ℕ → Stand → Outcome
 called n k f g S j y = call [] n k (f (incoming n S j)) (g (outgoing n S j)) (y .state) (callAt S j) (y .memory)
 
-abbrev pub toolCall : Edition → ℕ → ℕ → List ℕ → List (List ℕ) → (ℕ → List ℕ) → ℕ → Stand → Outcome
-toolCall e n k s S out j y = sheetCall e n k s (record { state = y .state; came = callAt S j; memory = y .memory; out = out j })
-
 abbrev pub calledOn : Edition → ℕ → ℕ → List ℕ → List (List ℕ) → ℕ → Stand → Outcome
 calledOn e n k s S = called n k (λ F. M e n k s) (λ F. N e n k s) S
 
@@ -58,7 +51,3 @@ freshStand n k =
 
 pub record RightAnswered (e : Edition) (n k : ℕ) (C s : List ℕ) : Type 0 where
   pub over : (x : Stand) (S : List (List ℕ)) → Fresh n k x → Series k S → RightOver 0 n k (λ F. place C) (seenAt (calledOn e n k s S) x) S
-
-pub record RightAsTool (e : Edition) (n k : ℕ) (C s : List ℕ) : Type 0 where
-  pub over : (x : Stand) (S : List (List ℕ)) (out : ℕ → List ℕ) → Fresh n k x → Series k S → ((j : ℕ) → j < length S → length (out j) ≡ 2 ^ k)
-      → RightOver 0 n k (λ F. place C) (seenAt (toolCall e n k s S out) x) S

@@ -3,8 +3,7 @@
 --   shareCell? n f, differ? n f g P      whether two words share a cell, and whether M differs from N P
 use Prim.Native.Nat.{ℕ, _^_}
 use native.Mathlib.Decide.{ℕ-discrete}
-use Rattle.kinds.specs.Decided.{opposite}
-use Rattle.kinds.specs.Search.{someBelow}
+use Rattle.kinds.specs.Decided.{opposite, someBelow}
 use Rattle.bits.specs.Image.{image}
 use Rattle.span.specs.Decisions.{bijection?}
 use Rattle.sheet.specs.Sheet.{Side}

@@ -4,7 +4,6 @@ pub mod Seen
 pub mod Run
 pub mod Right
 pub mod Answered
-pub mod Caller
 pub mod Agreement
 pub mod Decisions
 pub mod Realises

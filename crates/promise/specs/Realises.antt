@@ -13,11 +13,11 @@ use Rattle.kinds.specs.declared.Refusal.the-variants.{WriteWiring, ReadWiring, 
 use Rattle.order.specs.Order.{place}
 use Rattle.sheet.specs.Sheet.{Side, writeSide, readSide}
 use Rattle.switches.specs.Cells.{M, N}
-use Rattle.promise.specs.Agreement.{ShareCell, Differ}
+use Rattle.promise.specs.Agreement.{Invertible, ShareCell, Differ}
 use Rattle.promise.specs.Decisions.{invertible?, shareCell?, differ?}
 
 abbrev pub notInvertible : Refusal → ℕ → Side → Reason
-notInvertible x k W = unless x (invertible? k W)
+notInvertible x k W = unless x (Invertible k W) (invertible? k W)
 
 abbrev pub sharedCell : ℕ → (ℕ → ℕ) → Reason
 sharedCell n f = record { refusal = SharedCell; applies = ShareCell n f; decided = shareCell? n f }

@@ -17,9 +17,8 @@ use Rattle.memory.specs.Memory.{Memory, Access}
 use Rattle.promise.specs.Series.{Series, wordIn, CompletedIn, dueCall, duePort}
 use Rattle.promise.specs.Run.{Stand, Fresh, standing, accessIn, carried}
 
-pub record LeavesBy (A : Access) (m : Memory) (p w : ℕ) : Type 0 where
-  pub port : p < length (A .reads)
-  pub word : getD (m .words) (getD (A .reads) p 0) 0 ≡ w
+abbrev pub LeavesBy : Access → Memory → ℕ → ℕ → Type 0
+LeavesBy A m p w = (p < length (A .reads)) × (getD (m .words) (getD (A .reads) p 0) 0 ≡ w)
 
 pub record RightRun (n k : ℕ) (P : ℕ → ℕ → ℕ) (A : ℕ → Access) (m : ℕ → Memory) (S : List (List ℕ)) : Type 0 where
   pub no-two-written : (j : ℕ) → j < length S → ¬ Clash k (A j .writes)

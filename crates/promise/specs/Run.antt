@@ -3,7 +3,7 @@
 --   Stand                     where the run of a sheet stands between two calls: the state, and the memory
 --   Fresh n k x               "marks zero, nothing coming in, half 0, reader idle". 2^(n+1) words are lent and as many marks; the words may be any
 --   incoming n S j            the frame that comes in at call j
---   outgoing n S j            the frame before it: what is read in call j, if anything is left to read, is of this one
+--   outgoing n S j            the frame before it: what is read in call j, if anything is left to read, is of this one. A sheet has the same maps for all frames, so that neither matters there
 --   accessIn n k f g S j y    what call j, made from y, does to the memory
 --   carried n k f g S j y     where the run stands after it
 use Prim.Native.Nat.{ℕ, zero, suc, _+_, _-_, _/_, _^_}

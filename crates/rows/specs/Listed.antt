@@ -1,6 +1,6 @@
 -- Which numbers of a scan were kept, told from its masks.
 --   keptIn ms i              whether number i of a scan was kept, told from the masks ms: its mask is 2^i or more exactly then
---   keptNumbers ms a b kept    of the positions from a to b - 1, those that were kept, or, if kept is false, those that were not; counted from a
+--   keptNumbers ms a b kept  of the positions from a to b - 1, those that were kept, or, if kept is false, those that were not; counted from a
 --   unitsOf ps               2^p for each p of ps, with zeros after them, and how many there are
 use Prim.Native.Nat.{ℕ, _+_, _-_, _^_}
 use mathlib.Core.Bool.{Bool, Bool-discrete}

@@ -12,7 +12,7 @@ use Rattle.kinds.specs.Decisions.{sized?, rightLengths?}
 use Rattle.kinds.specs.Frame.{inOrder}
 use Rattle.kinds.specs.Refusal.{given}
 use Rattle.kinds.specs.First.{firstOf}
-use Rattle.kinds.specs.Search.{someBelow, eachBelow}
+use Rattle.kinds.specs.Decided.{someBelow, eachBelow}
 use Rattle.kinds.specs.declared.Refusal.the-variants.{WriteClash, ReadClash}
 use Rattle.bits.specs.Image.{image}
 use Rattle.bits.specs.Decisions.{allBelow?}

@@ -12,7 +12,7 @@ use mathlib.Core.List.{List}
 use mathlib.Core.Option.{none}
 use native.Mathlib.Omega.{arith}
 use lib.ListN.{length}
-use Rattle.kinds.specs.Answers.{onto}
+use Rattle.kinds.specs.Answers.{overFront}
 use Rattle.kinds.specs.Edition.{Edition}
 use Rattle.kinds.specs.Frame.{ticks}
 use Rattle.kinds.specs.First.{Reason}
@@ -60,7 +60,7 @@ module _ (e : Edition) (n k : ℕ) (s : List ℕ) (b : Lent) where
 
   pub ticks-idle : (l : Left) → Runs e n k s b l → handedOut (l .answer) ≡ false → l .out ≡ b .out
   ticks-idle l c idle =
-      c .buffer ∙ ap (λ (x : List ℕ). onto x (b .out)) (call-idle before n k (M e n k s) (N e n k s) (b .state) (b .came) (b .memory) (sym (c .handed) ∙ idle))
+      c .buffer ∙ ap (λ (x : List ℕ). overFront x (b .out)) (call-idle before n k (M e n k s) (N e n k s) (b .state) (b .came) (b .memory) (sym (c .handed) ∙ idle))
 
   pub ticks-unique : {l r : Left} → Runs e n k s b l → Runs e n k s b r → l ≡ r
   ticks-unique x y = comes-unique x y

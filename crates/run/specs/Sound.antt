@@ -1,6 +1,6 @@
 -- When nothing is wrong with a call of the run that is lent the sheet s and b.
---   cellsWritten e n k s b   the cells that the call writes, by port
---   cellsRead e n k s b      the cells that it reads
+--   placesWritten e n k s b   the cells that the call writes, by port
+--   placesRead e n k s b      the cells that it reads
 --   runTable e n k s b       1, 2, 5 and 10, and then 11 to 14
 --   Sound e n k s b          nothing is wrong: neither sizes, lengths, sheet or state, nor any cell that the call writes or reads
 use Prim.Native.Nat.{ℕ}
@@ -20,21 +20,21 @@ use Rattle.call.specs.Tool.{Lent, lengthsOf, runLengths}
 use Rattle.run.specs.Tool.{beforeFaults}
 
 module _ (e : Edition) (n k : ℕ) (s : List ℕ) (b : Lent) where
-  abbrev pub cellsWritten : List ℕ
-  cellsWritten = writesOf n k (M e n k s) (b .state) (b .came)
+  abbrev pub placesWritten : List ℕ
+  placesWritten = writesOf n k (M e n k s) (b .state) (b .came)
 
-  abbrev pub cellsRead : List ℕ
-  cellsRead = readsOf n k (N e n k s) (b .state)
+  abbrev pub placesRead : List ℕ
+  placesRead = readsOf n k (N e n k s) (b .state)
 
   abbrev pub runTable : List Reason
-  runTable = beforeFaults e n k s b ++ faults k cellsWritten cellsRead (b .memory .marks) (b .memory .marks)
+  runTable = beforeFaults e n k s b ++ faults k placesWritten placesRead (b .memory .marks) (b .memory .marks)
 
   pub record Sound : Type 0 where
     pub sized : Sized e n k
     pub right : RightLengths (sheetLengths e s ++ runLengths n k (lengthsOf b))
     pub formed : WellFormed e n k s
     pub possible : Possible (ticks n k) (b .state)
-    pub writes-apart : ¬ Clash k cellsWritten
-    pub writes-empty : ¬ SomeFilled (b .memory .marks) cellsWritten
-    pub reads-apart : ¬ Clash k cellsRead
-    pub reads-filled : ¬ SomeEmpty (b .memory .marks) cellsRead
+    pub writes-apart : ¬ Clash k placesWritten
+    pub writes-empty : ¬ SomeFilled (b .memory .marks) placesWritten
+    pub reads-apart : ¬ Clash k placesRead
+    pub reads-filled : ¬ SomeEmpty (b .memory .marks) placesRead

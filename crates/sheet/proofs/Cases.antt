@@ -11,7 +11,7 @@ use Rattle.kinds.specs.Edition.{edition1}
 use Rattle.kinds.specs.Decisions.{sized?, rightLengths?}
 use Rattle.kinds.specs.Refusal.{given}
 use Rattle.kinds.specs.First.{firstOf}
-use Rattle.kinds.specs.Search.{eachBelow}
+use Rattle.kinds.specs.Decided.{eachBelow}
 use Rattle.bits.specs.Decisions.{allBelow?}
 use Rattle.sheet.specs.Sheet.{stagesIn, writeSide, readSide}
 use Rattle.sheet.specs.Decisions.{fromTo?, stageInRange?, eachStage?, inRange?, allZero?, formedSide?, wellFormed?}

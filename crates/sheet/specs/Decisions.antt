@@ -4,8 +4,7 @@ use Prim.Native.Nat.{ℕ, _-_, _*_, _^_}
 use mathlib.Core.List.{List, [], _∷_}
 use native.Mathlib.Decide.{ℕ-discrete, decLe}
 use lib.ListN.{length, drop, getD}
-use Rattle.kinds.specs.Decided.{both, through}
-use Rattle.kinds.specs.Search.{eachBelow}
+use Rattle.kinds.specs.Decided.{both, through, eachBelow}
 use Rattle.kinds.specs.Edition.{Edition}
 use Rattle.kinds.specs.Frame.{tickBits}
 use Rattle.bits.specs.Decisions.{allBelow?}

@@ -5,19 +5,20 @@
 use Prim.Native.Nat.{ℕ}
 use mathlib.Core.List.{List, [], _∷_, _++_}
 use lib.ListN.{length}
-use Rattle.kinds.specs.Edition.{Edition, sheetPlaces}
+use Rattle.kinds.specs.Edition.{Edition, sheetPlaces, Sized}
 use Rattle.kinds.specs.Decisions.{sized?}
 use Rattle.kinds.specs.First.{Reason, unless}
 use Rattle.kinds.specs.Reasons.{outside, wrongLength}
 use Rattle.kinds.specs.declared.Refusal.the-variants.{Layout}
 use Rattle.kinds.specs.Lengths.{Wanted, exactly}
+use Rattle.sheet.specs.Layout.{WellFormed}
 use Rattle.sheet.specs.Decisions.{wellFormed?}
 
 abbrev pub brokenLayout : Edition → ℕ → ℕ → List ℕ → Reason
-brokenLayout e n k s = unless Layout (wellFormed? e n k s)
+brokenLayout e n k s = unless Layout (WellFormed e n k s) (wellFormed? e n k s)
 
 abbrev pub sheetLengths : Edition → List ℕ → List (ℕ × Wanted)
 sheetLengths e s = (length s, exactly (sheetPlaces e)) ∷ []
 
 abbrev pub sheetTable : Edition → ℕ → ℕ → List ℕ → List (ℕ × Wanted) → List Reason
-sheetTable e n k s others = outside (sized? e n k) ∷ wrongLength (sheetLengths e s ++ others) ∷ brokenLayout e n k s ∷ []
+sheetTable e n k s others = outside (Sized e n k) (sized? e n k) ∷ wrongLength (sheetLengths e s ++ others) ∷ brokenLayout e n k s ∷ []

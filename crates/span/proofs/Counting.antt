@@ -18,7 +18,7 @@ use native.Mathlib.Decide.{ℕ-discrete, decLe, decLt}
 use native.Mathlib.Omega.{arith}
 use lib.Pow.{pow-lt}
 use Rattle.span.specs.Maps.{Into, Injective, Onto, Bijection}
-use Rattle.kinds.specs.Search.{someBelow}
+use Rattle.kinds.specs.Decided.{someBelow}
 
 pub apart-injective : {f : ℕ → ℕ} {a : ℕ} → ((i j : ℕ) → i < j → j < a → f i ≢ f j) → Injective f a
 apart-injective apart i j h l same = elim (decLt i j) [

@@ -2,8 +2,8 @@
 --   Duals k R           dual vectors of the rows R, of k bits each: row l AND vector j has an odd number of ones exactly when l is j
 --   independent-tail    without its first member a list stays independent
 --   independent-head    the first member of an independent list is no sum of the others
---   rows-of-duals          the rows make of a sum of duals its selection
---   duals-of-rows          the duals make of a sum of rows its selection
+--   rows-of-duals       the rows make of a sum of duals its selection
+--   duals-of-rows       the duals make of a sum of rows its selection
 --   dual-same, dual-other    row l and dual j have an odd number of ones in common exactly when l is j
 --   vanish-sum          what vanishes on the rows vanishes on their sums
 --   duals               independent rows have dual vectors
@@ -22,7 +22,7 @@ use Rattle.bits.specs.Image.{chosen, image, AllBelow, columns}
 use Rattle.bits.specs.Parity.{bit, dot}
 use Rattle.bits.proofs.ParityLaws.{bit-same, bit-other, dot-lt, dot-comm, dot-zero, dot-xor-right}
 use Rattle.bits.proofs.ImageLaws.{image-cons, image-xor, image-unit, image-lt, linear-agree, columns-length, columns-at}
-use Rattle.kinds.specs.Search.{someBelow}
+use Rattle.kinds.specs.Decided.{someBelow}
 use Rattle.span.specs.Sums.{SumOf, Independent}
 use Rattle.span.specs.Rows.{dots}
 use Rattle.span.proofs.RowLaws.{dots-bit, dots-nil, dots-cons, dots-lt, dots-xor, dot-image, dot-same}

@@ -6,8 +6,7 @@ use Prim.Native.Nat.{ℕ, _^_}
 use mathlib.Core.List.{List}
 use native.Mathlib.Decide.{ℕ-discrete, decLt}
 use lib.ListN.{length}
-use Rattle.kinds.specs.Decided.{both, through, implied}
-use Rattle.kinds.specs.Search.{someBelow, eachBelow}
+use Rattle.kinds.specs.Decided.{both, through, implied, someBelow, eachBelow}
 use Rattle.bits.specs.Image.{image}
 use Rattle.span.specs.Maps.{Injective, Onto, Bijection}
 use Rattle.span.specs.Sums.{SumOf, Independent}

@@ -1,7 +1,7 @@
 -- How a scan in hand holds what it has taken. Nothing above this crate needs more of it than the name `Holds`.
 --   width                 how many bits a scanned number has, and a mask
 --   rowOf e, maskOf e     the number and the mask of an entry, which holds both: number * 2^width + mask
---   MadeOf vs e             the mask of e, over kept positions of vs, selects a sum of the row of e
+--   MadeOf vs e           the mask of e, over kept positions of vs, selects a sum of the row of e
 --   Echelon es vs         es[z] is an entry made of vs whose row has z leading zeros, or 0 where there is none
 --   Holds scan vs         the scan has taken the numbers vs, each of at most `width` bits, in that order
 --   Reduces es e left     left is e less entries of es, none of which has a row with as many leading zeros as that of left

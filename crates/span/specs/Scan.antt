@@ -12,9 +12,9 @@ use Prim.Native.Nat.{ℕ, zero, suc, _^_}
 use mathlib.Core.List.{List, [], map}
 use native.Mathlib.Decide.{ℕ-discrete}
 use lib.ListN.{length, getD}
-use Rattle.kinds.specs.Decided.{both, opposite}
+use Rattle.kinds.specs.Decided.{both, opposite, someBelow}
 use Rattle.kinds.specs.Frame.{inOrder}
-use Rattle.kinds.specs.Search.{someBelow, found, withIf, those}
+use Rattle.kinds.specs.Search.{found, withIf, those}
 use Rattle.bits.specs.Image.{image}
 use Rattle.span.specs.Decisions.{sumOf?}
 

@@ -16,7 +16,7 @@ use native.Mathlib.Omega.{arith}
 use borrow.Author.Tests.{eq-eqb, ne-eqb}
 use lib.Dec.{eqb}
 use Rattle.state.specs.Clocks.{nextClock}
-use Rattle.state.specs.States.{clockOf, Possible, reading, came, next}
+use Rattle.state.specs.States.{clockOf, Possible, reading, wordsCame, next}
 use Rattle.state.specs.declared.State.{State}
 use Rattle.state.proofs.ClockLaws.{clock-possible}
 
@@ -24,13 +24,13 @@ abbrev pub afterRead : ℕ → State → State
 afterRead T st = record { a = st .a; h = st .h; r = cond (reading T st) (st .r + 1) (st .r) }
 
 abbrev pub afterWrite : State → List ℕ → State
-afterWrite st ws = record { a = cond (came ws) (st .a + 1) (st .a); h = st .h; r = st .r }
+afterWrite st ws = record { a = cond (wordsCame ws) (st .a + 1) (st .a); h = st .h; r = st .r }
 
 abbrev pub turned : ℕ → State → State
 turned T st = cond (eqb (st .a) T) (record { a = 0; h = 1 - st .h; r = 0 }) st
 
 module _ (T : ℕ) (st : State) where
-  pub next-clock : (ws : List ℕ) → clockOf (next T st ws) ≡ nextClock T (clockOf st) (came ws)
+  pub next-clock : (ws : List ℕ) → clockOf (next T st ws) ≡ nextClock T (clockOf st) (wordsCame ws)
   next-clock ws = go (eqb (afterWrite st ws .a) T)
     where
       go : (b : Bool) → clockOf (cond b (record { a = 0; h = 1 - st .h; r = 0 }) (afterWrite (afterRead T st) ws)) ≡ cond b (record { a = 0; r = 0 }) (clockOf (afterWrite (afterRead T st) ws))
@@ -47,7 +47,7 @@ module _ (T : ℕ) (st : State) where
   next-full w ws full = rw (eq-eqb (st .a + 1) T full)
 
   pub next-possible : (ws : List ℕ) → Possible T st → Possible T (next T st ws)
-  next-possible ws ok = record { clock = rw (next-clock ws) (clock-possible T (clockOf st) (came ws) (ok .clock)); half = half (eqb (afterWrite st ws .a) T) }
+  next-possible ws ok = record { clock = rw (next-clock ws) (clock-possible T (clockOf st) (wordsCame ws) (ok .clock)); half = half (eqb (afterWrite st ws .a) T) }
     where
       half : (b : Bool) → cond b (record { a = 0; h = 1 - st .h; r = 0 }) (afterWrite (afterRead T st) ws) .h < 2
       half true = omega arith

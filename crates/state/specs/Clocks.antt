@@ -1,7 +1,7 @@
 -- The clock of a run: how many ticks of the incoming frame have come, and which tick is read next (01, 'One tick of the run'). T is 2^t, the ticks of a frame;
 -- came says whether words came, false on a blank tick. Which half or which cells a run writes and reads is not said here.
 --   PossibleClock T c       "a < 2^t, a <= r <= 2^t"
---   reads T c               whether a tick is read out in this call: r < 2^t
+--   clockReading T c        whether a tick is read out in this call: r < 2^t
 --   readOn T c              the clock after the read: "r grows by 1"
 --   counted c came          the clock after the write: "a grows by 1" if words came
 --   full T c                a has reached 2^t
@@ -19,11 +19,11 @@ pub record PossibleClock (T : ℕ) (c : Clock) : Type 0 where
   pub behind : c .a ≤ c .r
   pub reader : c .r ≤ T
 
-abbrev pub reads : ℕ → Clock → Bool
-reads T c = ltb (c .r) T
+abbrev pub clockReading : ℕ → Clock → Bool
+clockReading T c = ltb (c .r) T
 
 abbrev pub readOn : ℕ → Clock → Clock
-readOn T c = record { a = c .a; r = cond (reads T c) (c .r + 1) (c .r) }
+readOn T c = record { a = c .a; r = cond (clockReading T c) (c .r + 1) (c .r) }
 
 abbrev pub counted : Clock → Bool → Clock
 counted c came = record { a = cond came (c .a + 1) (c .a); r = c .r }

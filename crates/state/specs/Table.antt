@@ -3,8 +3,9 @@
 use Prim.Native.Nat.{ℕ}
 use Rattle.kinds.specs.First.{Reason, unless}
 use Rattle.kinds.specs.declared.Refusal.the-variants.{State as Impossible}
+use Rattle.state.specs.States.{Possible}
 use Rattle.state.specs.Decisions.{possible?}
 use Rattle.state.specs.declared.State.{State}
 
 abbrev pub impossible : ℕ → State → Reason
-impossible T st = unless Impossible (possible? T st)
+impossible T st = unless Impossible (Possible T st) (possible? T st)

@@ -1,7 +1,6 @@
 // The state of a run: its clock, and the half that words are written to.
 ghost use mathlib.Core.Path.{_≡_};
-ghost use Rattle.kinds.specs.Answers.{Says};
-ghost use Rattle.kinds.specs.Decided.{ifHolds};
+ghost use Rattle.kinds.specs.Answers.{Says, ifHolds};
 ghost use Rattle.state.specs.Clocks.{PossibleClock, readOn, Completes, nextClock};
 ghost use Rattle.state.specs.Decisions.{possibleClock?, possible?};
 ghost use Rattle.state.specs.States.{Possible, next as nextState};

@@ -8,7 +8,7 @@ use mathlib.Core.List.{List, [], _∷_, map}
 use mathlib.Core.Logic.{_⊎_, inl, inr}
 use mathlib.Core.Option.{Option, none, some}
 use Rattle.text.specs.Decimal.{codes, decimalIn}
-use Rattle.text.specs.Numbers.{numbersText, Row}
+use Rattle.text.specs.Numbers.{numbersText, IsRow}
 use Rattle.text.proofs.ReadLaws.{Outcome, outcome}
 use Rattle.text.proofs.RowLaws.{row?}
 
@@ -21,7 +21,7 @@ starts : map (λ s. told (outcome (codes s))) ("5,2)" ∷ "65535)" ∷ "0 7" ∷
 unfolding codes decimalIn outcome
 starts = refl
 
-abbrev numbers : {b : List ℕ} → Dec ((ns : List ℕ) × Row b ns) → Option (List ℕ)
+abbrev numbers : {b : List ℕ} → Dec ((ns : List ℕ) × IsRow b ns) → Option (List ℕ)
 numbers (yes (ns, r)) = some ns
 numbers (no n) = none
 

@@ -27,7 +27,7 @@ use lib.ListN.{length, getD, take, drop, length-append, take-append-drop, List·
 use lib.Seq.{append-snoc, take-at, drop-at, take-take}
 use Rattle.kinds.specs.Decided.{both}
 use Rattle.text.specs.Decimal.{digit, decimal}
-use Rattle.text.specs.Number.{most, IsDigit, NoDigit, Digits, Starts, Stops}
+use Rattle.text.specs.Number.{greatestNumber, IsDigit, NoDigit, Digits, Starts, Stops}
 use Rattle.text.specs.Numbers.{ending, Begins}
 use Rattle.text.proofs.DecimalLaws.{decimal-small, decimal-more, decimal-some}
 
@@ -35,20 +35,20 @@ abbrev pub more : ℕ → ℕ → ℕ
 more v c = 10 * v + (c - digit 0)
 
 abbrev pub GoesOn : ℕ → ℕ → ℕ → Type 0
-GoesOn seen v c = IsDigit c × ((min 1 seen ≤ v) × (more v c ≤ most))
+GoesOn seen v c = IsDigit c × ((min 1 seen ≤ v) × (more v c ≤ greatestNumber))
 
 abbrev digit? : (c : ℕ) → Dec (IsDigit c)
 digit? c = both (decLe (digit 0) c) (decLe c (digit 9))
 
 abbrev goesOn? : (seen v c : ℕ) → Dec (GoesOn seen v c)
-goesOn? seen v c = both (digit? c) (both (decLe (min 1 seen) v) (decLe (more v c) most))
+goesOn? seen v c = both (digit? c) (both (decLe (min 1 seen) v) (decLe (more v c) greatestNumber))
 
 abbrev pub digits : ℕ → ℕ → List ℕ
 digits zero v = []
 digits (suc seen) v = decimal v
 
 abbrev pub Sofar : ℕ → ℕ → Type 0
-Sofar seen v = v ≤ most * min 1 seen
+Sofar seen v = v ≤ greatestNumber * min 1 seen
 
 -- ---- the bytes of a decimal are digits
 

@@ -1,5 +1,5 @@
 -- A number in bytes: "decimal numbers 0 to 65535, no leading zeros" (01, 'The order card'). What may come after it is for whoever reads on to say; a digit may not.
---   most               the greatest number that may stand there
+--   greatestNumber     the greatest number that may stand there
 --   IsDigit c          c is the byte of a digit
 --   NoDigit b          b starts with no digit
 --   Digits b v rest    b starts with the digits of the number v; rest comes after them, and starts with no digit
@@ -7,7 +7,7 @@
 --   Stops b i          b doesn't start with the digits of a number, and i is the place of the first byte from which no number could go on; the length, if b merely stops short
 --   valueOf r          the value that r, an answer of `number`, gives; none where r names a bad place
 --   placeOf r          the place that r gives: the one after the digits, or the bad one
---   StandsAt b at o e     from place at of b on stands the number o, and e is the place after its digits; where o is none, no number stands there, and e is the bad place
+--   NumeralAt b at o e    from place at of b on stands the number o, and e is the place after its digits; where o is none, no number stands there, and e is the bad place
 --   NumberIs b at r    r is what is read at place at of b
 use Prim.Native.Nat.{ℕ, _+_, _<_, _≤_}
 use mathlib.Core.Path.{_≡_}
@@ -18,8 +18,8 @@ use Rattle.text.specs.Decimal.{digit, decimal}
 use Rattle.text.specs.declared.Numeral.{Numeral}
 use Rattle.text.specs.declared.Numeral.the-variants.{Value, Bad}
 
-abbrev pub most : ℕ
-most = 65535
+abbrev pub greatestNumber : ℕ
+greatestNumber = 65535
 
 abbrev pub IsDigit : ℕ → Type 0
 IsDigit c = (digit 0 ≤ c) × (c ≤ digit 9)
@@ -29,12 +29,12 @@ NoDigit [] = Unit
 NoDigit (c ∷ rest) = ¬ IsDigit c
 
 pub record Digits (b : List ℕ) (v : ℕ) (rest : List ℕ) : Type 0 where
-  pub number : v ≤ most
+  pub number : v ≤ greatestNumber
   pub bytes : b ≡ decimal v ++ rest
   pub ended : NoDigit rest
 
 abbrev pub Starts : List ℕ → Type 0
-Starts b = (v : ℕ) × (more : List ℕ) × (v ≤ most) × (b ++ more ≡ decimal v)
+Starts b = (v : ℕ) × (more : List ℕ) × (v ≤ greatestNumber) × (b ++ more ≡ decimal v)
 
 pub record Stops (b : List ℕ) (i : ℕ) : Type 0 where
   pub within : i ≤ length b
@@ -50,9 +50,9 @@ abbrev pub placeOf : Numeral → ℕ
 placeOf (Value v next) = next
 placeOf (Bad e) = e
 
-abbrev pub StandsAt : List ℕ → ℕ → Option ℕ → ℕ → Type 0
-StandsAt b at (some v) e = (at < e) × (e ≤ length b) × Digits (drop at b) v (drop e b)
-StandsAt b at none e = (i : ℕ) × (e ≡ at + i) × Stops (drop at b) i
+abbrev pub NumeralAt : List ℕ → ℕ → Option ℕ → ℕ → Type 0
+NumeralAt b at (some v) e = (at < e) × (e ≤ length b) × Digits (drop at b) v (drop e b)
+NumeralAt b at none e = (i : ℕ) × (e ≡ at + i) × Stops (drop at b) i
 
 abbrev pub NumberIs : List ℕ → ℕ → Numeral → Type 0
-NumberIs b at r = StandsAt b at (valueOf r) (placeOf r)
+NumberIs b at r = NumeralAt b at (valueOf r) (placeOf r)

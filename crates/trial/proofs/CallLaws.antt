@@ -15,19 +15,20 @@ use Rattle.kinds.specs.Edition.{edition1}
 use Rattle.kinds.specs.Frame.{tickBits, ticks, portOf, inOrder}
 use Rattle.kinds.proofs.FrameLaws.{tick-lt, port-lt, word-lt, in-order-length, in-order-at, in-order-is}
 use Rattle.memory.specs.Memory.{Memory}
-use Rattle.kinds.specs.Answers.{onto}
+use Rattle.kinds.specs.Answers.{overFront}
 use Rattle.state.specs.declared.State.{State}
 use Rattle.call.specs.Tool.{Lent, Left, stateAfter, ComesOf}
 use Rattle.call.specs.declared.RunAnswer.{RunAnswer}
 use Rattle.run.specs.Tool.{Runs}
 use Rattle.promise.specs.Series.{callAt, Series, wordIn, frame, wordsOfTick}
 use Rattle.promise.specs.Run.{standing}
-use Rattle.promise.specs.Answered.{outcomeAt, calledOn, toolCall, freshStand}
+use Rattle.promise.specs.Answered.{outcomeAt, calledOn, freshStand}
 use Rattle.promise.proofs.OneFrame.{one-frame-length, came, came-at, completed, word-in, one-frame-series}
 use Rattle.promise.proofs.FreshLaws.{is-fresh}
-use Rattle.promise.proofs.ToolLaws.{tool-call}
+use Rattle.caller.specs.AsTool.{toolCall}
+use Rattle.caller.proofs.ToolLaws.{tool-call}
 use Rattle.promise.proofs.SheetLaws.{right-tick}
-use Rattle.trial.specs.Trial.{trialCalls, wordAtPlace, lampOrder}
+use Rattle.trial.specs.Trial.{trialCalls, wordAtPlace, wordsAsTheyLeave}
 use Rattle.trial.specs.Inside.{leavesIn, frameHanded, Here, Runnable}
 use Rattle.trial.proofs.LampLaws.{lamp-moved}
 
@@ -81,7 +82,7 @@ module _ {n k : ℕ} {s : List ℕ} (run : Runnable n k s) where
 
   pub call-goes : {j : ℕ} → j < 2 * T → {st st' : State} {ts ws ms ws' ms' out left : List ℕ} {a : RunAnswer} → Here n k s j st ws ms → length out ≡ 2 ^ k → ts ≡ callAt S j
       → Runs edition1 n k s (lent st ts ws ms out) (record { answer = a; memory = record { words = ws'; marks = ms' }; out = left }) → st' ≡ stateAfter st a
-      → Here n k s (suc j) st' ws' ms' × (left ≡ onto (leavesIn n k s j) out)
+      → Here n k s (suc j) st' ws' ms' × (left ≡ overFront (leavesIn n k s j) out)
   unfolding standing
   call-goes h here room brings goes after =
       let comes = call-comes h here room (rw brings at goes) in
@@ -93,7 +94,7 @@ module _ {n k : ℕ} {s : List ℕ} (run : Runnable n k s) where
       (λ i h. in-order-at (2 ^ n) (wordIn n S 0) 0 i h ∙ word-in n k (λ i. i) within i h)
 
   abbrev lamps : List ℕ
-  lamps = lampOrder n (run .columns)
+  lamps = wordsAsTheyLeave n (run .columns)
 
   pub tick-leaves : {c : ℕ} → c < T → leavesIn n k s (T + c) ≡ wordsOfTick k lamps c
   tick-leaves {c} h =

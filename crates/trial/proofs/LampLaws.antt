@@ -9,9 +9,9 @@ use Rattle.kinds.proofs.FrameLaws.{in-order-length, in-order-at}
 use Rattle.kinds.proofs.SearchLaws.{found-has}
 use Rattle.order.specs.Order.{place, Order, Moved}
 use Rattle.order.proofs.OrderLaws.{order-bijection}
-use Rattle.trial.specs.Trial.{wordAtPlace, lampOrder}
+use Rattle.trial.specs.Trial.{wordAtPlace, wordsAsTheyLeave}
 
-pub lamp-moved : {n : ℕ} {C : List ℕ} → Order n C → Moved n C (inOrder (2 ^ n) (λ i. i)) (lampOrder n C)
+pub lamp-moved : {n : ℕ} {C : List ℕ} → Order n C → Moved n C (inOrder (2 ^ n) (λ i. i)) (wordsAsTheyLeave n C)
 lamp-moved {n} {C} order =
     let places = order-bijection order in
     record {

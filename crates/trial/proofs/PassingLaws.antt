@@ -17,7 +17,7 @@ use lib.Pow.{pow-pos}
 use Rattle.kinds.specs.Edition.{edition1}
 use Rattle.kinds.specs.Frame.{ticks}
 use Rattle.kinds.proofs.FrameLaws.{frame-whole}
-use Rattle.kinds.specs.Answers.{onto}
+use Rattle.kinds.specs.Answers.{overFront}
 use Rattle.state.specs.declared.State.{State}
 use Rattle.call.specs.Tool.{stateAfter}
 use Rattle.call.specs.declared.RunAnswer.{RunAnswer}
@@ -62,7 +62,7 @@ module _ {n k : ℕ} {s f : List ℕ} {from : ℕ} {st : State} {ws ms : List �
       pub passing-more : from ≤ ticks n k → {st' : State} {ts ws' ms' f' out left : List ℕ} {a : RunAnswer} → length f' ≡ length f → length out ≡ 2 ^ k
           → ts ≡ callAt (trialCalls n k) (from + p .calls)
           → Runs edition1 n k s (lent st ts ws ms out) (record { answer = a; memory = record { words = ws'; marks = ms' }; out = left }) → st' ≡ stateAfter st a
-          → Passing n k s f' from st' ws' ms' ports (at + ports) × (left ≡ onto (leavesIn n k s (from + p .calls)) out)
+          → Passing n k s f' from st' ws' ms' ports (at + ports) × (left ≡ overFront (leavesIn n k s (from + p .calls)) out)
       passing-more early same room brings goes after =
           let (here, left) = call-goes (p .run) (omega (arith, passing-left)) (p .here) room brings goes after in (
             record {

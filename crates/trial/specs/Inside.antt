@@ -1,7 +1,7 @@
 -- What the functions inside the crate promise one another.
 --   standsAt n k s j            where the run of the sheet s stands before call j of the trial
 --   leavesIn n k s j            what it hands out in call j
---   frameHanded n k s             all that it hands out in the blank ticks, place by place
+--   frameHanded n k s           all that it hands out in the blank ticks, place by place
 --   Here n k s j st ws ms       the run stands there in the state st, with the words ws and the marks ms
 --   Runnable n k s              sizes are sound, and s is planned for an order
 --   Numbered n k s f            and f is words 0 to 2^n - 1
@@ -17,7 +17,7 @@ use Rattle.order.specs.Order.{Order}
 use Rattle.state.specs.declared.State.{State}
 use Rattle.promise.specs.Run.{Stand}
 use Rattle.promise.specs.Answered.{freshStand, stands, outcomeAt, calledOn}
-use Rattle.plan.specs.Tool.{IsPlanned}
+use Rattle.construction.specs.Planned.{IsPlanned}
 use Rattle.trial.specs.Trial.{trialCalls}
 
 abbrev pub standsAt : ℕ → ℕ → List ℕ → ℕ → Stand

@@ -9,11 +9,12 @@ use native.Mathlib.Nat.{mul-le-mul}
 use native.Mathlib.Omega.{arith}
 use lib.ListN.{length, take, drop, replicate, length-append}
 use lib.Pow.{pow-mono}
-use Rattle.kinds.specs.Decided.{ifHolds}
+use Rattle.kinds.specs.Answers.{ifHolds}
 use Rattle.kinds.specs.Edition.{edition1}
 use Rattle.kinds.specs.Frame.{ticks}
 use Rattle.kinds.specs.First.{firstOf}
 use Rattle.kinds.specs.Refusal.{said}
+use Rattle.kinds.proofs.FirstLaws.{none-some}
 use Rattle.kinds.proofs.TruthLaws.{holds-yes}
 use Rattle.kinds.proofs.PartLaws.{part-length, part-back}
 use Rattle.sheet.specs.Sheet.{Side}
@@ -275,6 +276,7 @@ returns-2 c =
     (λ W R write-shows read-shows.
     serving-refuses (n it) (k it) (cellOf (k it) W) (cellOf (k it) R) (lent (start it)) (sound it) (served .serve .result) (serves served W R write-shows read-shows)
     (ap said (c .before .answer .given .1)))
+    (λ _ _. served .serve .ensures .refused _ (ap said (c .before .answer .given .1)))
 
 enum-told-2 : tie.Need-enum-told-2
 enum-told-2 c = search needs
@@ -306,6 +308,7 @@ returns-3 c =
     serving-does (n it) (k it) (cellOf (k it) W) (cellOf (k it) R) (lent (start it)) (sound it) (served .serve .result) (serves served W R write-shows read-shows)
     (ap said (c .before .enum-told2 .given .1)) (goes-on (ticks (n it) (k it)) (st it) (ws it) frame (sound it .possible) (c .next .ensures))
     (ap (λ (T : ℕ). reading T (st it)) frame))
+    (λ _. none-some)
 
 pub call-spec : {M : Type 1} → statement M
 call-spec =

@@ -7,7 +7,7 @@ use native.Mathlib.Omega.{arith}
 use lib.ListN.{length, set, drop, length-append, drop-of-length-le}
 use lib.Seq.{drop-cons, append-snoc}
 use Rattle.kinds.proofs.TruthLaws.{false≢true}
-use Rattle.text.specs.Numbers.{Row, Begins}
+use Rattle.text.specs.Numbers.{IsRow, Begins}
 use Rattle.text.proofs.RowLaws.{row-step, row-none, row-rest, row-begins}
 use Rattle.text.proofs.ToolLaws.{next-number, next-none}
 use Rattle.bits.specs.Padded.{paddedTo}
@@ -25,8 +25,8 @@ record Taking (b : List ℕ) (at : ℕ) (numbers : List ℕ) (count place : ℕ)
   short : length b ≤ longest
   within : place ≤ length b
   passed : 2 * count + 4 ≤ place
-  on : (ns : List ℕ) → Row (drop place b) ns → Row (drop at b) (taken ++ ns)
-  back : (ms : List ℕ) → Row (drop at b) ms → (ns : List ℕ) × Row (drop place b) ns
+  on : (ns : List ℕ) → IsRow (drop place b) ns → IsRow (drop at b) (taken ++ ns)
+  back : (ms : List ℕ) → IsRow (drop at b) ms → (ns : List ℕ) × IsRow (drop place b) ns
 
 start : {b : List ℕ} {at : ℕ} → Further b at → Taking b at (paddedTo mostColumns []) 0 at
 start f = record {
@@ -58,14 +58,14 @@ module _ {b numbers : List ℕ} {at count place : ℕ} (t : Taking b at numbers 
     back = λ ms r. let (ns, s) = t .back ms r in let (xs, rest, _) = row-rest g s in (xs, rest);
   }
 
-  stop : place < length b → ((v : ℕ) (rest : List ℕ) → ¬ Begins (drop place b) v rest) → (C : List ℕ) → ¬ Row (drop at b) C
+  stop : place < length b → ((v : ℕ) (rest : List ℕ) → ¬ Begins (drop place b) v rest) → (C : List ℕ) → ¬ IsRow (drop at b) C
   stop h not C r =
       let (ns, s) = t .back C r in
       let here = drop-cons b place 0 h in
       let (v, rest, g) = row-begins (rw here at s) in
       not v rest (rw here g)
 
-  done : length b ≤ place → (C : List ℕ) × Row (drop at b) C × (numbers ≡ paddedTo mostColumns C) × (count ≡ length C)
+  done : length b ≤ place → (C : List ℕ) × IsRow (drop at b) C × (numbers ≡ paddedTo mostColumns C) × (count ≡ length C)
   done h = (t .taken, rw (append-nil (t .taken)) at (t .on [] (rw (drop-of-length-le b h) row-none)), t .held, t .many)
 
 abbrev Inv-loop : tie.InvT-loop

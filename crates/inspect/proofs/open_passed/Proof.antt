@@ -58,7 +58,7 @@ module _ (c : tie.After-check-with-k) where
   sheet = start .args .sheet .now
 
   abbrev first : List Reason
-  first = orderTable (sized? edition1 n k) n C (sheetLengths edition1 sheet)
+  first = orderTable (Sized edition1 n k) (sized? edition1 n k) n C (sheetLengths edition1 sheet)
 
   says : said (c .check-with-k .result) ≡ firstOf first
   says = c .check-with-k .ensures (sheetLengths edition1 sheet) (one-length _ _)

@@ -16,7 +16,7 @@ use Rattle.kinds.proofs.AnswerLaws.{said-before, refuses, does}
 use Rattle.kinds.proofs.TruthLaws.{denied}
 use Rattle.order.specs.Order.{Order}
 use Rattle.order.proofs.TableLaws.{order-sound}
-use Rattle.kinds.specs.Answers.{onto}
+use Rattle.kinds.specs.Answers.{overFront}
 use Rattle.bits.proofs.PaddedLaws.{padded-length}
 use Rattle.card.specs.Card.{mostColumns, Readable, columnsOn, unreadable, cardTable}
 use Rattle.list.specs.Listing.{listing}
@@ -144,7 +144,7 @@ returns-3 c d =
     let same = listed-read (at .read .ensures d) in
     let end : c .before .before .list-order .result ≡ length (text c) = omega (arith, writes .next) in
     does (done c) (says (made c) d) (
-      writes-onto writes (omega (arith, fits (made c) (done c), lent c .0)) ∙ ap (λ (w : List ℕ). onto w (t at)) same,
+      writes-onto writes (omega (arith, fits (made c) (done c), lent c .0)) ∙ ap (λ (w : List ℕ). overFront w (t at)) same,
       one-set (l at) (lent c .1 .0) ∙ ap (λ (x : ℕ). x ∷ []) (end ∙ ap length same),
     )
 

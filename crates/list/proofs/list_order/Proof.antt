@@ -17,8 +17,8 @@ use Rattle.order.proofs.TableLaws.{order-sound}
 use Rattle.sheet.specs.Table.{sheetLengths}
 use Rattle.kinds.proofs.PartLaws.{part-length, part-back}
 use Rattle.kinds.specs.Lengths.{exactly}
-use Rattle.plan.specs.Planned.{plannedSheet}
-use Rattle.trial.specs.Trial.{lampOrder}
+use Rattle.construction.specs.Planned.{plannedSheet}
+use Rattle.trial.specs.Trial.{wordsAsTheyLeave}
 use Rattle.list.proofs.RoomLaws.{listing-fits}
 use Rattle.list.proofs.TrialLaws.{planned-tried, planned-text}
 use Rattle.list.proofs.list_order.Statement.{statement}
@@ -79,13 +79,13 @@ module _ (c : tie.After-trial) where
   planned : sheet ≡ plannedSheet edition1 (n called) (k called) (C called)
   planned = c .trial .ensures .done (ap said done) .planned .constructed
 
-  lamps : frame ≡ lampOrder (n called) (C called)
+  lamps : frame ≡ wordsAsTheyLeave (n called) (C called)
   lamps = c .trial .ensures .done (ap said done) .frame
 
   frame-length : length frame ≡ room
   frame-length = ap length lamps ∙ in-order-length (2 ^ n called) _ ∙ sym (words called)
 
-  back : take (room - 0) (frame ++ drop (room - 0) zeros) ≡ lampOrder (n called) (C called)
+  back : take (room - 0) (frame ++ drop (room - 0) zeros) ≡ wordsAsTheyLeave (n called) (C called)
   back = part-back room zeros frame frame-length ∙ lamps
 
 two-to-requires : tie.Need-two-to-requires

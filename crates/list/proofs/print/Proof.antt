@@ -12,7 +12,7 @@ use Rattle.kinds.specs.First.{firstOf}
 use Rattle.kinds.specs.Refusal.{said}
 use Rattle.kinds.specs.declared.Refusal.{Refusal}
 use Rattle.text.specs.Decimal.{codes}
-use Rattle.kinds.specs.Answers.{onto}
+use Rattle.kinds.specs.Answers.{overFront}
 use Rattle.card.specs.Card.{Readable, cardTable}
 use Rattle.lines.specs.Line.{line}
 use Rattle.list.specs.Tool.{textPlaces, listLengths, textFor}
@@ -70,7 +70,7 @@ returns c d =
     let none : firstOf (cardTable edition1 d []) ≡ none = said-by made d ∙ ap said (c .before .before .before .enum-told .given .1) in
     record {
       length-of = ap (λ (l : List ℕ). getD (take 1 l) 0 0) size ∙ ap (λ (o : Option Refusal). length (textFor o d)) (sym none);
-      text = text ∙ ap (λ (o : Option Refusal). onto (textFor o d) (t made)) (sym none);
+      text = text ∙ ap (λ (o : Option Refusal). overFront (textFor o d) (t made)) (sym none);
     }
 
 number-requires : tie.Need-number-requires

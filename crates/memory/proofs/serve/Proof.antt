@@ -8,8 +8,7 @@ use borrow.Author.Needs.{needs}
 use borrow.Author.Tests.{not-true, not-false}
 use native.Mathlib.Decide.{decLe, ℕ-discrete}
 use lib.ListN.{length}
-use Rattle.kinds.specs.Answers.{onto}
-use Rattle.kinds.specs.Decided.{ifHolds}
+use Rattle.kinds.specs.Answers.{overFront, ifHolds}
 use Rattle.kinds.specs.First.{firstOf}
 use Rattle.kinds.specs.declared.Refusal.{Refusal}
 use Rattle.kinds.proofs.TruthLaws.{holds-yes, denied}
@@ -33,10 +32,10 @@ module _ (A : Access) (m : Memory) (out : List ℕ) (fit : Fitting (length (A .w
   abbrev each : Dec (length (A .words) ≡ length (A .writes))
   each = ℕ-discrete (length (A .words)) (length (A .writes))
 
-  both-done : {out' marks₁ words' marks' : List ℕ} → out' ≡ ifHolds room (onto (wordsAt (A .reads) (m .words)) out) out
+  both-done : {out' marks₁ words' marks' : List ℕ} → out' ≡ ifHolds room (overFront (wordsAt (A .reads) (m .words)) out) out
       → marks₁ ≡ ifHolds room (withMarks 0 (A .reads) (m .marks)) (m .marks) → words' ≡ ifHolds each (put (A .writes) (A .words) (m .words)) (m .words)
       → marks' ≡ ifHolds each (withMarks 1 (A .writes) marks₁) marks₁
-      → (_≡_ {A = Memory} (record { words = words'; marks = marks' }) (served A m)) × (out' ≡ onto (wordsAt (A .reads) (m .words)) out)
+      → (_≡_ {A = Memory} (record { words = words'; marks = marks' }) (served A m)) × (out' ≡ overFront (wordsAt (A .reads) (m .words)) out)
   both-done o e w f = (
     same-memory (w ∙ holds-yes each _ _ (fit .a-word-each))
         (f ∙ holds-yes each _ _ (fit .a-word-each) ∙ ap (withMarks 1 (A .writes)) (e ∙ holds-yes room _ _ (fit .room))),

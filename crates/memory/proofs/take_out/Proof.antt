@@ -10,7 +10,7 @@ use borrow.Author.Needs.{needs}
 use mir.Facts.{fits-widen}
 use lib.ListN.{length, getD, set, take, drop, length-set, length-map, List·getD-map}
 use lib.Seq.{paste-suc, take-length}
-use Rattle.kinds.specs.Answers.{onto}
+use Rattle.kinds.specs.Answers.{overFront}
 use Rattle.kinds.proofs.TruthLaws.{holds-yes, holds-no}
 use Rattle.memory.specs.Memory.{wordsAt}
 use Rattle.memory.proofs.MemoryLaws.{Marking, put-done, mark-start, mark-more}
@@ -49,7 +49,7 @@ module _ {cells out₀ words marks₀ out marks : List ℕ} {p : ℕ} (i : Takin
       → Taking cells out₀ words marks₀ (set out p word) marks' (p + 1)
   more h w m = rw (w, m) (onward h)
 
-  done : length cells ≤ p → out ≡ onto all out₀
+  done : length cells ≤ p → out ≡ overFront all out₀
   done h = let e : p ≡ length all = omega (arith, i .within, as-many) in i .front ∙ rw (e, take-length all)
 
 abbrev Inv-loop : tie.InvT-loop

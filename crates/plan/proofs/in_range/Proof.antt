@@ -11,7 +11,7 @@ use Rattle.bits.specs.Padded.{padded}
 use Rattle.sheet.specs.Sheet.{Stage, stagesIn, flat}
 use Rattle.sheet.specs.Layout.{StageInRange, EachStage}
 use Rattle.lay.proofs.StagedLaws.{shown-read}
-use Rattle.plan.specs.Planned.{StagesInRange}
+use Rattle.construction.specs.Planned.{StagesInRange}
 use Rattle.plan.proofs.in_range.Statement.{statement}
 use Rattle.plan.proofs.in_range.Tie as tie
 

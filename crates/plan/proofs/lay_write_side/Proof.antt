@@ -18,9 +18,9 @@ use Rattle.switches.specs.Cells.{tickToBank}
 use Rattle.switches.specs.Written.{keptStages}
 use Rattle.lay.specs.Staged.{staged, ShowsStages}
 use Rattle.lay.proofs.StagedLaws.{shown-part}
-use Rattle.plan.specs.Planned.{StagesInRange, readWith, mWith, writeWith}
+use Rattle.construction.specs.Planned.{StagesInRange, readWith, mWith, writeWith}
 use Rattle.plan.specs.Inside.{bankThrough, Ordered}
-use Rattle.plan.proofs.WithLaws.{with-read-layable, with-write-layable}
+use Rattle.construction.proofs.WithLaws.{with-read-layable, with-write-layable}
 use Rattle.plan.proofs.DrawnLaws.{addresses-drawn, wiring-drawn, tick-part-drawn}
 use Rattle.plan.proofs.lay_write_side.Statement.{statement}
 use Rattle.plan.proofs.lay_write_side.Tie as tie

@@ -13,11 +13,11 @@ use Rattle.kinds.specs.declared.Answer.the-variants.{Done}
 use Rattle.kinds.proofs.TruthLaws.{denied}
 use Rattle.kinds.proofs.AnswerLaws.{one-length, refuses, does}
 use Rattle.sheet.specs.Table.{sheetLengths}
-use Rattle.plan.specs.Planned.{readStages}
-use Rattle.plan.specs.Tool.{planTable, IsPlanned}
+use Rattle.construction.specs.Planned.{readStages, IsPlanned}
+use Rattle.plan.specs.Tool.{planTable}
 use Rattle.plan.specs.Inside.{Plannable}
-use Rattle.plan.proofs.ChoiceLaws.{read-layable}
-use Rattle.plan.proofs.PlannedLaws.{planned}
+use Rattle.construction.proofs.ChoiceLaws.{read-layable}
+use Rattle.construction.proofs.PlannedLaws.{planned}
 use Rattle.plan.proofs.ToolLaws.{plannable}
 use Rattle.plan.proofs.plan.Statement.{statement}
 use Rattle.plan.proofs.plan.Tie as tie

@@ -13,15 +13,15 @@ use Rattle.span.specs.Rows.{rows}
 use Rattle.span.proofs.ScanLaws.{units-length}
 use Rattle.span.proofs.MaskLaws.{masks-at}
 use Rattle.span.proofs.RowLaws.{rows-length}
-use Rattle.order.specs.Parts.{rowsP1, rowsP3}
-use Rattle.order.proofs.RowLaws.{rows-together}
+use Rattle.parts.specs.Parts.{rowsP1, rowsP3}
+use Rattle.parts.proofs.RowLaws.{rows-together}
 use Rattle.bits.specs.Padded.{arrayWidth, padded}
 use Rattle.bits.proofs.PaddedLaws.{padded-at, padded-length, padded-part}
 use Rattle.rows.specs.Listed.{keptNumbers, unitsOf}
 use Rattle.lay.specs.Staged.{pairs, staged}
 use Rattle.lay.proofs.PairLaws.{pairs-length}
-use Rattle.plan.specs.Planned.{othersOfP1, keptOfP3, readStages}
-use Rattle.plan.proofs.ChoiceLaws.{other-rows, as-many}
+use Rattle.construction.specs.Planned.{othersOfP1, keptOfP3, readStages}
+use Rattle.construction.proofs.ChoiceLaws.{other-rows, as-many}
 use Rattle.plan.proofs.ListedLaws.{others-listed, kept-listed}
 use Rattle.plan.proofs.read_stages.Statement.{statement}
 use Rattle.plan.proofs.read_stages.Tie as tie

@@ -11,7 +11,7 @@ use lib.Pow.{pow-pos, high, low}
 use Rattle.kinds.specs.Edition.{edition1}
 use Rattle.kinds.specs.Frame.{ticks, tickOf, portOf}
 use Rattle.kinds.proofs.FrameLaws.{in-order-length, in-order-is}
-use Rattle.kinds.specs.Answers.{onto}
+use Rattle.kinds.specs.Answers.{overFront}
 use Rattle.state.specs.declared.State.{State}
 use Rattle.call.specs.Tool.{stateAfter}
 use Rattle.call.specs.declared.RunAnswer.{RunAnswer}
@@ -61,7 +61,7 @@ module _ {n k ports at : ℕ} {s f₀ ws₀ ms₀ f ws ms : List ℕ} {st : Stat
     tick-length : length tick ≡ 2 ^ k
     tick-length = ap length (tick-leaves (p .run) (passing-left p h)) ∙ in-order-length (2 ^ k) _
 
-    tick-fills : onto tick part ≡ tick
+    tick-fills : overFront tick part ≡ tick
     tick-fills = rw (drop-of-length-le part {i = length tick} (omega (arith, part-length, tick-length))) (append-nil tick)
 
     tick-there : (q : ℕ) → at ≤ q → q < at + ports → getD (with tick) q 0 ≡ wordLeft n k s q

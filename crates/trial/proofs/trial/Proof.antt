@@ -20,7 +20,7 @@ use Rattle.kinds.proofs.AnswerLaws.{refuses, does}
 use Rattle.order.specs.Order.{Order}
 use Rattle.order.proofs.TableLaws.{order-sound}
 use Rattle.sheet.specs.Table.{sheetLengths}
-use Rattle.plan.specs.Tool.{IsPlanned}
+use Rattle.construction.specs.Planned.{IsPlanned}
 use Rattle.plan.proofs.ToolLaws.{plans-done}
 use Rattle.trial.specs.Trial.{trialTable}
 use Rattle.trial.specs.Inside.{Runnable}

@@ -7,7 +7,7 @@ use borrow.Author.Needs.{needs}
 use borrow.Author.Tests.{eq-eqb, ne-eqb, not-true, not-false}
 use native.Mathlib.Nat.{ne-of-lt}
 use native.Mathlib.Omega.{arith}
-use Rattle.kinds.specs.Decided.{ifHolds}
+use Rattle.kinds.specs.Answers.{ifHolds}
 use Rattle.kinds.proofs.TruthLaws.{holds-yes, holds-no, denied}
 use Rattle.state.specs.Clocks.{PossibleClock, counted, startedAnew, nextClock}
 use Rattle.state.specs.Decisions.{possibleClock?}

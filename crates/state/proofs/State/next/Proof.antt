@@ -8,23 +8,23 @@ use borrow.Author.Tests.{ne-eqb, not-true, not-false}
 use native.Mathlib.Omega.{arith}
 use lib.Dec.{eqb}
 use lib.ListN.{length}
-use Rattle.kinds.specs.Decided.{ifHolds}
+use Rattle.kinds.specs.Answers.{ifHolds}
 use Rattle.kinds.proofs.TruthLaws.{holds-yes, holds-no, says-same, denied}
 use Rattle.state.specs.Clocks.{readOn, counted, full, nextClock}
 use Rattle.state.specs.Decisions.{possibleClock?, possible?}
-use Rattle.state.specs.States.{clockOf, Possible, came, next as nextState}
+use Rattle.state.specs.States.{clockOf, Possible, wordsCame, next as nextState}
 use Rattle.state.specs.declared.Clock.{Clock}
 use Rattle.state.specs.declared.State.{State}
 use Rattle.state.proofs.ClockLaws.{full-last}
 use Rattle.state.proofs.State.next.Statement.{statement}
 use Rattle.state.proofs.State.next.Tie as tie
 
-words-came : (ws : List ℕ) → not (eqb (length ws) 0) ≡ came ws
+words-came : (ws : List ℕ) → not (eqb (length ws) 0) ≡ wordsCame ws
 words-came [] = refl
 words-came (w ∷ ws) = rw (ne-eqb (length (w ∷ ws)) 0 (omega arith))
 
-by-clock : (T : ℕ) (st : State) (ws : List ℕ) (x : Clock) (b : Bool) (h : ℕ) → full T (counted (readOn T (clockOf st)) (came ws)) ≡ b
-    → x ≡ nextClock T (clockOf st) (came ws) → h ≡ cond b (1 - st .h) (st .h) → _≡_ {A = State} (record { a = x .a; h = h; r = x .r }) (nextState T st ws)
+by-clock : (T : ℕ) (st : State) (ws : List ℕ) (x : Clock) (b : Bool) (h : ℕ) → full T (counted (readOn T (clockOf st)) (wordsCame ws)) ≡ b
+    → x ≡ nextClock T (clockOf st) (wordsCame ws) → h ≡ cond b (1 - st .h) (st .h) → _≡_ {A = State} (record { a = x .a; h = h; r = x .r }) (nextState T st ws)
 by-clock T st ws x true h e f g = rw (g, f, e)
 by-clock T st ws x false h e f g = rw (g, f, e)
 
@@ -58,11 +58,11 @@ module _ (c : tie.After-completes) where
   possible : Possible T st
   possible = c .before .before .before .possible .ensures .0 (not-false _ (c .before .before .if1 .left))
 
-  clock-after : c .before .next .result ≡ nextClock T (clockOf st) (came ws)
+  clock-after : c .before .next .result ≡ nextClock T (clockOf st) (wordsCame ws)
   clock-after = c .before .next .ensures ∙ holds-yes (possibleClock? T (clockOf st)) _ _ (possible .clock) ∙ ap (nextClock T (clockOf st)) (words-came ws)
 
-  turns : c .completes .result ≡ full T (counted (readOn T (clockOf st)) (came ws))
-  turns = says-same _ _ (rw (words-came ws) at (c .completes .ensures)) (full-last T (clockOf st) (came ws) (possible .clock))
+  turns : c .completes .result ≡ full T (counted (readOn T (clockOf st)) (wordsCame ws))
+  turns = says-same _ _ (rw (words-came ws) at (c .completes .ensures)) (full-last T (clockOf st) (wordsCame ws) (possible .clock))
 
   then : (b : Bool) (h : ℕ) → c .completes .result ≡ b → h ≡ cond b (1 - st .h) (st .h)
       → _≡_ {A = State} (record { a = c .before .next .result .a; h = h; r = c .before .next .result .r }) (ifHolds (possible? T st) (nextState T st ws) st)

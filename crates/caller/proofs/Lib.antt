@@ -1,0 +1,3 @@
+-- Laws of the run as a tool, and of a caller.
+pub mod ToolLaws
+pub mod CallerLaws

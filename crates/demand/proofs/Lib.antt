@@ -1,0 +1,2 @@
+-- The third demand holds.
+pub mod DemandLaws

@@ -1,0 +1,2 @@
+-- The third demand.
+pub mod Demand

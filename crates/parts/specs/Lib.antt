@@ -1,0 +1,2 @@
+-- The four parts of an order.
+pub mod Parts

@@ -157,7 +157,7 @@ module _ {e : Edition} {n k : ℕ} {C s : List ℕ} (sized : Sized e n k) (whole
   hands-out-when-due R j = tool-hands e n k s (R .calls) (R .out) (R .start) sized whole formed (R .room) (R .fresh) (R .series) order right j
 
   pub frames-alone : FramesAlone e n k s
-  frames-alone R Q same F T c words =
+  frames-alone R Q F T c same words =
       tool-alone (R .start) (Q .start) (R .calls) (Q .calls) (R .out) (Q .out) (R .room) (Q .room) (R .fresh) (Q .fresh) (R .series) (Q .series) same words
 
 pub words-conserved : (e : Edition) (n k : ℕ) (s : List ℕ) → Conserves e n k s

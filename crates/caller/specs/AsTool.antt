@@ -1,7 +1,8 @@
 -- The run as a tool over a series of calls, with the sheet s, and what is promised of it (01, 'One tick of the run').
 --   toolCall e n k s S out j y       call j of the series S, made from y; out j is the out buffer that is lent
 --   ToolRun n k             a run from fresh: where it starts, the series of its calls, and the out buffers, of 2^k places each
---   seenIn e n k s R j      what is seen of its call j
+--   standIn e n k s R j     where it stands before call j
+--   seenIn e n k s R j      what is seen of that call
 --   RightAsTool e n k C s   every such run is right for the order C by what is seen: "for demand 3 a call of the series that is answered 11 to 14 counts as the clash, overwriting or empty read it names"
 --   Conserves e n k s       "words taken in, less words handed out, over the successful calls, equal the filled marks", before each call
 --   HandsOutWhenDue e n k s     "a frame completed in call T leaves in calls T+1 to T+2^t, blank or not", and in no other call a tick is handed out
@@ -34,21 +35,21 @@ pub record ToolRun (n k : ℕ) : Type 0 where
   pub room : (j : ℕ) → j < length calls → length (out j) ≡ 2 ^ k
 
 module _ (e : Edition) (n k : ℕ) (s : List ℕ) where
+  abbrev pub standIn : ToolRun n k → ℕ → Stand
+  standIn R = stands (toolCall e n k s (R .calls) (R .out)) (R .start)
+
   abbrev pub seenIn : ToolRun n k → ℕ → Seen
   seenIn R = seenAt (toolCall e n k s (R .calls) (R .out)) (R .start)
 
   abbrev pub Conserves : Type 0
-  Conserves =
-      (R : ToolRun n k) (j : ℕ)
-      → wordsTaken (seenIn R) (R .calls) j ≡ filledMarks (stands (toolCall e n k s (R .calls) (R .out)) (R .start) j .memory .marks) + wordsHanded (seenIn R) j
+  Conserves = (R : ToolRun n k) (j : ℕ) → wordsTaken (seenIn R) (R .calls) j ≡ filledMarks (standIn R j .memory .marks) + wordsHanded (seenIn R) j
 
   abbrev pub HandsOutWhenDue : Type 0
   HandsOutWhenDue = (R : ToolRun n k) (j : ℕ) → j < length (R .calls) → Says (seenIn R j .handed) (TickDue 0 n k (R .calls) j)
 
   abbrev pub FramesAlone : Type 0
-  FramesAlone =
-      (R Q : ToolRun n k) → SamePattern (R .calls) (Q .calls) → (F T c : ℕ) → frame n (R .calls) F ≡ frame n (Q .calls) F → CompletedIn n (R .calls) F T → c < ticks n k
-      → T + 1 + c < length (R .calls) → seenIn R (T + 1 + c) .leaving ≡ seenIn Q (T + 1 + c) .leaving
+  FramesAlone = (R Q : ToolRun n k) (F T c : ℕ) → SamePattern (R .calls) (Q .calls) → frame n (R .calls) F ≡ frame n (Q .calls) F → CompletedIn n (R .calls) F T
+      → c < ticks n k → T + 1 + c < length (R .calls) → seenIn R (T + 1 + c) .leaving ≡ seenIn Q (T + 1 + c) .leaving
 
 pub record RightAsTool (e : Edition) (n k : ℕ) (C s : List ℕ) : Type 0 where
   pub over : (R : ToolRun n k) → RightOver 0 n k (λ F. place C) (seenIn e n k s R) (R .calls)

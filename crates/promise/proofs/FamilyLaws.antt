@@ -119,6 +119,6 @@ module _ {n k : ℕ} (within : k ≤ n) {S : List (List ℕ)} (whole : WholeTick
       to busy = reads-only within S whole (λ j. clock (at j)) counted-at goes-at (ap (λ (y : Y). clock y .r) at-first ∙ ap (λ (c : Clock). c .r) idle) j (omega arith) (ltb-true (clock (at j) .r) (ticks n k) busy) .0
 
       from : TickDue 0 n k S j → ltb (clock (at j) .r) (ticks n k) ≡ true
-      from due =
-          let (r, _) = reads-in-turn within S whole (λ j. clock (at j)) counted-at goes-at (due .completed) (due .tick) j (due .in-frame) (omega (arith, due .then)) (omega arith) in
-          lt-ltb (clock (at j) .r) (ticks n k) (omega (arith, r, due .in-frame))
+      from (F, T, c, completed, early, then) =
+          let (r, _) = reads-in-turn within S whole (λ j. clock (at j)) counted-at goes-at completed c j early (omega (arith, then)) (omega arith) in
+          lt-ltb (clock (at j) .r) (ticks n k) (omega (arith, r, early))

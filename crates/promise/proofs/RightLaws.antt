@@ -50,9 +50,9 @@ module _ {n k : ℕ} (within : k ≤ n) {Q : ℕ → ℕ} (places : Bijection Q 
 
 pub over-hands : {d n k : ℕ} → k ≤ n → {P : ℕ → ℕ → ℕ} → ((F : ℕ) → Bijection (P F) (2 ^ n)) → {o : ℕ → Seen} {S : List (List ℕ)} → RightOver d n k P o S → {j : ℕ} → TickDue d n k S j
     → j < length S → o j .handed ≡ true
-over-hands {k = k} within places {o} right due reach =
-    let (i, h, e) = word-of within (places (due .of-frame)) (due .in-frame) 0 (pow-pos k) in
-    ap (λ (c : ℕ). o c .handed) (due .then) ∙ due-there right (due .completed) (due .tick) (rw (due .then) at reach) 0 i (pow-pos k) h e .handed
+over-hands {k = k} within places {o} right (F, T, c, completed, early, then) reach =
+    let (i, h, e) = word-of within (places F) early 0 (pow-pos k) in
+    ap (λ (c : ℕ). o c .handed) then ∙ due-there right completed c (rw then at reach) 0 i (pow-pos k) h e .handed
 
 module _ {d n k : ℕ} (within : k ≤ n) {P : ℕ → ℕ → ℕ} {F : ℕ} (places : Bijection (P F) (2 ^ n)) {c : ℕ} (early : c < ticks n k) {T : ℕ} {o : ℕ → Seen} {S : List (List ℕ)}
     (right : RightOver d n k P o S) (completed : CompletedIn n S F T) (reach : d + (T + 1 + c) < length S) (whole : Whole k o S) where

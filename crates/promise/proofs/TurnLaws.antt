@@ -67,38 +67,20 @@ module _ {n k : ℕ} (within : k ≤ n) (S : List (List ℕ)) (whole : WholeTick
 
   -- the tick that is read in call j is due then
   abbrev DueNow : ℕ → Type 0
-  DueNow j = (due : TickDue 0 n k S j) × (due .tick ≡ clock j .r)
+  DueNow j = (due : TickDue 0 n k S j) × (due .2 ≡ clock j .r)
 
   due-next : (j : ℕ) → j < length S → (clock j .r < ticks n k → DueNow j) → clock (suc j) .r < ticks n k → Stays n k S j (clock j) ⊎ Turns n k S j (clock j) → DueNow (suc j)
   due-next j reach before busy (inl stays) =
       let r : clock (suc j) .r ≡ readOn (ticks n k) (clock j) .r = reader-after j reach ∙ stays .reader in
       elim (decLt (clock j .r) (ticks n k)) [
         | yes reads ↦
-            let (due, tick) = before reads in
-            let more = read-more (ticks n k) (clock j) reads in (
-              record {
-                of-frame = due .of-frame;
-                in-call = due .in-call;
-                tick = due .tick + 1;
-                completed = due .completed;
-                in-frame = omega (arith, r, more, tick);
-                then = omega (arith, due .then);
-              },
-              omega (arith, r, more, tick),
-            )
+            let ((F, T, c, completed, early, then), tick) = before reads in
+            let more = read-more (ticks n k) (clock j) reads in
+            ((F, T, c + 1, completed, omega (arith, r, more, tick), omega (arith, then)), omega (arith, r, more, tick))
         | no idle ↦ absurd (omega (arith, r, read-idle (ticks n k) (clock j) (omega arith)))
       ]
-  due-next j reach before busy (inr turns) = (
-    record {
-      of-frame = incoming n S j;
-      in-call = j;
-      tick = 0;
-      completed = completes-now j reach turns;
-      in-frame = pow-pos (tickBits n k);
-      then = omega arith;
-    },
-    omega (arith, reader-after j reach ∙ turns .reader),
-  )
+  due-next j reach before busy (inr turns) =
+      ((incoming n S j, j, 0, completes-now j reach turns, pow-pos (tickBits n k), omega arith), omega (arith, reader-after j reach ∙ turns .reader))
 
   pub reads-only : clock 0 .r ≡ ticks n k → (j : ℕ) → j ≤ length S → clock j .r < ticks n k → DueNow j
   reads-only idle zero reach busy = absurd (omega arith)

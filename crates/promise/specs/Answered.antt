@@ -45,9 +45,7 @@ abbrev pub calledOn : Edition → ℕ → ℕ → List ℕ → List (List ℕ) �
 calledOn e n k s S = called n k (λ F. M e n k s) (λ F. N e n k s) S
 
 abbrev pub freshStand : ℕ → ℕ → Stand
-freshStand n k =
-    let zeros : List ℕ = replicate (2 ^ (n + 1)) 0 in
-    record { state = record { a = 0; h = 0; r = ticks n k }; memory = record { words = zeros; marks = zeros } }
+freshStand n k = let zeros : List ℕ = replicate (2 ^ (n + 1)) 0 in record { state = record { a = 0; h = 0; r = ticks n k }; memory = record { words = zeros; marks = zeros } }
 
 pub record RightAnswered (e : Edition) (n k : ℕ) (C s : List ℕ) : Type 0 where
   pub over : (x : Stand) (S : List (List ℕ)) → Fresh n k x → Series k S → RightOver 0 n k (λ F. place C) (seenAt (calledOn e n k s S) x) S

@@ -28,9 +28,7 @@ pub record RightRun (n k : ℕ) (P : ℕ → ℕ → ℕ) (A : ℕ → Access) (
   pub leaves : (F T i j : ℕ) → CompletedIn n S F T → i < 2 ^ n → j ≡ dueCall 0 k (P F) T i → j < length S → LeavesBy (A j) (m j) (duePort k (P F) i) (wordIn n S F i)
 
 abbrev pub RightFrom : ℕ → ℕ → (ℕ → ℕ → ℕ) → (ℕ → ℕ → ℕ) → (ℕ → ℕ → ℕ) → Stand → List (List ℕ) → Type 0
-RightFrom n k P f g x S =
-    let at : ℕ → Stand = standing (carried n k f g S) x in
-    RightRun n k P (λ j. accessIn n k f g S j (at j)) (λ j. at j .memory) S
+RightFrom n k P f g x S = let at : ℕ → Stand = standing (carried n k f g S) x in RightRun n k P (λ j. accessIn n k f g S j (at j)) (λ j. at j .memory) S
 
 pub record Right (e : Edition) (n k : ℕ) (C s : List ℕ) : Type 0 where
   pub over : (x : Stand) (S : List (List ℕ)) → Fresh n k x → Series k S → RightFrom n k (λ F. place C) (λ F. M e n k s) (λ F. N e n k s) x S

@@ -7,7 +7,7 @@
 --   frame n S F              frame F
 --   wordsOfTick k l c        tick c of the frame l: its 2^k words, by port
 --   CompletedIn n S F T      call T brings the last word of frame F
---   TickDue d n k S j        in call j a tick is due: "a frame completed in call T leaves in calls T+1 to T+2^t, blank or not", or d calls later; 01 has no such delay, so d is 0 there
+--   TickDue d n k S j        in call j a tick is due, tick c of a frame F: "a frame completed in call T leaves in calls T+1 to T+2^t, blank or not", or d calls later; 01 has no such delay, so d is 0 there
 --   SamePattern S R          S and R have blank ticks at the same calls, and equally many words at the others
 -- Where a word is due, if its frame is completed in call T, under an order that sends word i to place P i, with a delay of d calls:
 --   dueCall d k P T i        in the call in which its place's tick is due
@@ -51,13 +51,8 @@ pub record CompletedIn (n : ℕ) (S : List (List ℕ)) (F T : ℕ) : Type 0 wher
   pub not-before : wordsBefore S T < (F + 1) * 2 ^ n
   pub by-then : (F + 1) * 2 ^ n ≤ wordsBefore S (suc T)
 
-pub record TickDue (d n k : ℕ) (S : List (List ℕ)) (j : ℕ) : Type 0 where
-  pub of-frame : ℕ
-  pub in-call : ℕ
-  pub tick : ℕ
-  pub completed : CompletedIn n S of-frame in-call
-  pub in-frame : tick < ticks n k
-  pub then : j ≡ d + (in-call + 1 + tick)
+abbrev pub TickDue : ℕ → ℕ → ℕ → List (List ℕ) → ℕ → Type 0
+TickDue d n k S j = (F : ℕ) × (T : ℕ) × (c : ℕ) × CompletedIn n S F T × (c < ticks n k) × (j ≡ d + (T + 1 + c))
 
 pub record SamePattern (S R : List (List ℕ)) : Type 0 where
   pub calls : length S ≡ length R

@@ -44,7 +44,7 @@ use Rattle.promise.proofs.SeriesLaws.{call-count}
 use Rattle.promise.proofs.SeenLaws.{over-same}
 use Rattle.promise.proofs.ConservedLaws.{Fair, call-fair, conserved-by, lent-by}
 use Rattle.promise.proofs.FreshLaws.{fresh-possible}
-use Rattle.promise.proofs.SheetLaws.{answered, right-tick, right-alone, right-hands}
+use Rattle.realise.proofs.SheetLaws.{answered, right-tick, right-alone, right-hands}
 use Rattle.caller.specs.AsTool.{toolCall, RightAsTool, Conserves, HandsOutWhenDue, FramesAlone}
 
 module _ (e : Edition) (n k : ℕ) (s : List ℕ) (S : List (List ℕ)) (out : ℕ → List ℕ) (x : Stand) where

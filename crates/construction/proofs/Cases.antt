@@ -15,7 +15,7 @@ use Rattle.span.specs.Rows.{dots, rows}
 use Rattle.parts.specs.Parts.{rowsP3}
 use Rattle.switches.specs.Stages.{afterStages}
 use Rattle.switches.specs.Written.{keptStages}
-use Rattle.promise.proofs.Cases.{identity, turning}
+use Rattle.realise.proofs.Cases.{identity, turning}
 use Rattle.construction.specs.Planned.{othersOfP1, portsToZero, keptOfP3, readStages, plannedSheet}
 use Rattle.lay.specs.Staged.{pairs}
 

@@ -16,7 +16,7 @@ use Rattle.sheet.specs.Sheet.{Stage, Side, readSide}
 use Rattle.sheet.specs.Layout.{WellFormed}
 use Rattle.sheet.proofs.LayLaws.{Layable}
 use Rattle.promise.specs.Right.{Right}
-use Rattle.promise.proofs.ExactLaws.{realises-right, right-stages}
+use Rattle.realise.proofs.ExactLaws.{realises-right, right-stages}
 use Rattle.construction.specs.Planned.{StagesInRange, sheetWith, readStages, plannedRead, plannedWrite, plannedSheet, IsPlanned}
 use Rattle.construction.proofs.ChoiceLaws.{read-count, read-layable}
 use Rattle.construction.proofs.WiringLaws.{wiring-vanish}

@@ -37,10 +37,10 @@ use Rattle.switches.specs.Cells.{bankAt, cellAt, cellOf, M, N}
 use Rattle.switches.proofs.StageLaws.{selected-linear, stages-sum, selected}
 use Rattle.switches.proofs.CellLaws.{bank-lt, cell-word, cell-into, cell-linear}
 use Rattle.switches.proofs.WrittenLaws.{side-map, side-few, side-layable}
-use Rattle.promise.specs.Agreement.{Invertible}
-use Rattle.promise.specs.Realises.{Realises}
-use Rattle.promise.proofs.RealiseLaws.{shares-invertible}
-use Rattle.promise.proofs.BoundLaws.{port-part}
+use Rattle.realise.specs.Agreement.{Invertible}
+use Rattle.realise.specs.Realises.{Realises}
+use Rattle.realise.proofs.RealiseLaws.{shares-invertible}
+use Rattle.realise.proofs.BoundLaws.{port-part}
 use Rattle.construction.specs.Planned.{StagesInRange, readWith, mWith, writeWith, sheetWith}
 
 abbrev pub wiringWith : ℕ → List Stage → List ℕ → ℕ → ℕ

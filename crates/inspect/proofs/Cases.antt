@@ -19,7 +19,7 @@ use Rattle.sheet.specs.Sheet.{stagesIn}
 use Rattle.sheet.specs.Decisions.{fromTo?, stageInRange?, eachStage?, inRange?, allZero?, formedSide?, wellFormed?}
 use Rattle.sheet.proofs.Cases.{reversal}
 use Rattle.switches.specs.Stages.{afterStages}
-use Rattle.promise.proofs.Cases.{gray, identity, turning, one-tick}
+use Rattle.realise.proofs.Cases.{gray, identity, turning, one-tick}
 use Rattle.inspect.specs.Tool.{inspectTable}
 
 computed : Unit {0}

@@ -19,8 +19,8 @@ use Rattle.switches.specs.Cells.{cellOf, cellColumns}
 use Rattle.maps.specs.Opened.{Shows}
 use Rattle.maps.specs.declared.OpenSide.{OpenSide}
 use Rattle.switches.proofs.CellLaws.{cell-into, cell-linear, cell-bijection}
-use Rattle.promise.specs.Agreement.{Invertible, ShareCell, Differ}
-use Rattle.promise.proofs.RealiseLaws.{shares-invertible}
+use Rattle.realise.specs.Agreement.{Invertible, ShareCell, Differ}
+use Rattle.realise.proofs.RealiseLaws.{shares-invertible}
 use Rattle.inspect.specs.Inside.{AgreeAt, Agree}
 
 module _ {n k : ℕ} {o : OpenSide} {W : Side} (shows : Shows n k o W) where

@@ -30,9 +30,9 @@ use Rattle.maps.specs.Opened.{unopened}
 use Rattle.maps.specs.declared.Opened.{Opened}
 use Rattle.maps.proofs.OpenLaws.{sides-unique}
 use Rattle.promise.specs.Right.{Right}
-use Rattle.promise.specs.Realises.{mapTable, Realises}
-use Rattle.promise.proofs.ExactLaws.{exact}
-use Rattle.promise.proofs.BoundLaws.{read-stages}
+use Rattle.realise.specs.Realises.{mapTable, Realises}
+use Rattle.realise.proofs.ExactLaws.{exact}
+use Rattle.realise.proofs.BoundLaws.{read-stages}
 use Rattle.inspect.specs.Tool.{inspectTable, Inspectable, Inspects, OpensPassed}
 
 module _ (e : Edition) (n k : ℕ) (C s : List ℕ) where

@@ -20,7 +20,7 @@ use Rattle.switches.specs.Cells.{cellOf}
 use Rattle.bits.specs.Padded.{arrayWidth}
 use Rattle.maps.specs.Opened.{Shows}
 use Rattle.maps.specs.declared.OpenSide.{OpenSide}
-use Rattle.promise.specs.Realises.{mapTable}
+use Rattle.realise.specs.Realises.{mapTable}
 
 abbrev pub AgreeAt : ℕ → List ℕ → List ℕ → Side → ℕ → Type 0
 AgreeAt k C w R j = getD w j 0 ≡ cellOf k R (getD C j 0)

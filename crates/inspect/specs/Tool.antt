@@ -26,7 +26,7 @@ use Rattle.sheet.specs.Table.{brokenLayout, sheetLengths}
 use Rattle.maps.specs.Opened.{Shows, closed}
 use Rattle.maps.specs.declared.Opened.{Opened}
 use Rattle.promise.specs.Right.{Right}
-use Rattle.promise.specs.Realises.{mapTable}
+use Rattle.realise.specs.Realises.{mapTable}
 
 abbrev pub inspectTable : Edition → ℕ → ℕ → List ℕ → List ℕ → List Reason
 inspectTable e n k C s = orderTable (Sized e n k) (sized? e n k) n C (sheetLengths e s) ++ brokenLayout e n k s ∷ mapTable e n k C s

@@ -1,20 +1,11 @@
--- Laws over every series.
-pub mod Fits
+-- Laws over every series, and cases that are computed.
 pub mod SeriesLaws
 pub mod FreshLaws
 pub mod CountedLaws
 pub mod TurnLaws
 pub mod AnsweredLaws
-pub mod HalfLaws
 pub mod FamilyLaws
-pub mod CalledLaws
-pub mod OneFrame
-pub mod OneRun
-pub mod RealiseLaws
 pub mod RightLaws
 pub mod SeenLaws
 pub mod ConservedLaws
-pub mod BoundLaws
-pub mod ExactLaws
-pub mod SheetLaws
 pub mod Cases

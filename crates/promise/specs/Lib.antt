@@ -1,9 +1,6 @@
--- Series of calls and frames, the run over them, when it is right, and when a sheet realises an order.
+-- Series of calls and frames, the run over them, and when it is right.
 pub mod Series
 pub mod Seen
 pub mod Run
 pub mod Right
 pub mod Answered
-pub mod Agreement
-pub mod Decisions
-pub mod Realises

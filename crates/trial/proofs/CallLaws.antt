@@ -23,11 +23,11 @@ use Rattle.run.specs.Tool.{Runs}
 use Rattle.promise.specs.Series.{callAt, Series, wordIn, frame, wordsOfTick}
 use Rattle.promise.specs.Run.{standing}
 use Rattle.promise.specs.Answered.{outcomeAt, calledOn, freshStand}
-use Rattle.promise.proofs.OneFrame.{one-frame-length, came, came-at, completed, word-in, one-frame-series}
+use Rattle.realise.proofs.OneFrame.{one-frame-length, came, came-at, completed, word-in, one-frame-series}
 use Rattle.promise.proofs.FreshLaws.{is-fresh}
 use Rattle.caller.specs.AsTool.{toolCall}
 use Rattle.caller.proofs.ToolLaws.{tool-call}
-use Rattle.promise.proofs.SheetLaws.{right-tick}
+use Rattle.realise.proofs.SheetLaws.{right-tick}
 use Rattle.trial.specs.Trial.{trialCalls, wordAtPlace, wordsAsTheyLeave}
 use Rattle.trial.specs.Inside.{leavesIn, frameHanded, Here, Runnable}
 use Rattle.trial.proofs.LampLaws.{lamp-moved}

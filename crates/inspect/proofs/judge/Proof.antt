@@ -22,9 +22,9 @@ use Rattle.bits.proofs.PaddedLaws.{padded-at, padded-part}
 use Rattle.switches.specs.Cells.{M, N, cellColumns}
 use Rattle.bits.specs.Padded.{arrayWidth, padded}
 use Rattle.maps.specs.Opened.{Shows}
-use Rattle.promise.specs.Agreement.{Invertible, ShareCell, Differ}
-use Rattle.promise.specs.Decisions.{shareCell?, differ?}
-use Rattle.promise.specs.Realises.{mapTable}
+use Rattle.realise.specs.Agreement.{Invertible, ShareCell, Differ}
+use Rattle.realise.specs.Decisions.{shareCell?, differ?}
+use Rattle.realise.specs.Realises.{mapTable}
 use Rattle.inspect.proofs.ColumnLaws.{wiring-tells, cells-tell, columns-tell}
 use Rattle.inspect.proofs.judge.Statement.{statement}
 use Rattle.inspect.proofs.judge.Tie as tie

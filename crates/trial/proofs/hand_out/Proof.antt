@@ -16,7 +16,7 @@ use Rattle.state.specs.declared.State.{State}
 use Rattle.call.specs.Tool.{stateAfter}
 use Rattle.call.specs.declared.RunAnswer.{RunAnswer}
 use Rattle.run.specs.Tool.{Runs}
-use Rattle.promise.proofs.OneFrame.{blank-call}
+use Rattle.realise.proofs.OneFrame.{blank-call}
 use Rattle.trial.specs.Inside.{leavesIn, frameHanded, Leaving}
 use Rattle.trial.proofs.CallLaws.{lent, tick-leaves}
 use Rattle.trial.proofs.PassingLaws.{Passing, passing-start, passing-left, passing-fits, passing-more}

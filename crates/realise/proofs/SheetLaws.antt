@@ -20,16 +20,16 @@ use Rattle.order.proofs.OrderLaws.{order-bijection}
 use Rattle.sheet.specs.Layout.{WellFormed}
 use Rattle.switches.specs.Cells.{M, N}
 use Rattle.call.proofs.CallLaws.{call-leaving}
 use Rattle.promise.specs.Series.{callAt, Series, wordIn, frame, wordsOfTick, CompletedIn, TickDue, SamePattern}
 use Rattle.promise.specs.Run.{Stand, Fresh}
 use Rattle.promise.specs.Right.{Right}
 use Rattle.promise.specs.Answered.{stands, outcomeAt, seenAt, calledOn, RightAnswered}
 use Rattle.promise.proofs.SeriesLaws.{series-whole}
 use Rattle.promise.proofs.AnsweredLaws.{answered-exact}
-use Rattle.promise.proofs.CalledLaws.{called-hands}
-use Rattle.promise.proofs.RealiseLaws.{realises-fits}
-use Rattle.promise.proofs.ExactLaws.{right-realises}
+use Rattle.realise.proofs.CalledLaws.{called-hands}
+use Rattle.realise.proofs.RealiseLaws.{realises-fits}
+use Rattle.realise.proofs.ExactLaws.{right-realises}
 use Rattle.promise.proofs.RightLaws.{Whole, over-tick, over-alone}
 
 pub sheet-whole : (e : Edition) (n k : ℕ) (s : List ℕ) (x : Stand) (S : List (List ℕ)) → Whole k (seenAt (calledOn e n k s S) x) S
 sheet-whole e n k s x S j h =

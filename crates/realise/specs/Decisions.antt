@@ -7,7 +7,7 @@ use Rattle.kinds.specs.Decided.{opposite, someBelow}
 use Rattle.bits.specs.Image.{image}
 use Rattle.span.specs.Decisions.{bijection?}
 use Rattle.sheet.specs.Sheet.{Side}
-use Rattle.promise.specs.Agreement.{Invertible, ShareCell, Differ}
+use Rattle.realise.specs.Agreement.{Invertible, ShareCell, Differ}
 
 abbrev pub invertible? : (k : ℕ) (W : Side) → Dec (Invertible k W)
 invertible? k W = bijection? (image (W .wiring)) (2 ^ k)

@@ -13,8 +13,8 @@ use Rattle.kinds.specs.declared.Refusal.the-variants.{WriteWiring, ReadWiring, 
 use Rattle.order.specs.Order.{place}
 use Rattle.sheet.specs.Sheet.{Side, writeSide, readSide}
 use Rattle.switches.specs.Cells.{M, N}
-use Rattle.promise.specs.Agreement.{Invertible, ShareCell, Differ}
-use Rattle.promise.specs.Decisions.{invertible?, shareCell?, differ?}
+use Rattle.realise.specs.Agreement.{Invertible, ShareCell, Differ}
+use Rattle.realise.specs.Decisions.{invertible?, shareCell?, differ?}
 
 abbrev pub notInvertible : Refusal → ℕ → Side → Reason
 notInvertible x k W = unless x (Invertible k W) (invertible? k W)

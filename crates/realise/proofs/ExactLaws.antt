@@ -21,19 +21,19 @@ use Rattle.sheet.specs.Sheet.{readSide}
 use Rattle.sheet.specs.Layout.{WellFormed}
 use Rattle.switches.specs.Cells.{M, N}
 use Rattle.switches.proofs.CellLaws.{cell-into}
 use Rattle.promise.specs.Series.{oneFrame, callAt, dueCall, duePort}
 use Rattle.promise.specs.Seen.{Leaves, RightOver}
 use Rattle.promise.specs.Answered.{freshStand, stands, seenAt, calledOn}
 use Rattle.promise.specs.Right.{Right}
-use Rattle.promise.specs.Realises.{Realises}
+use Rattle.realise.specs.Realises.{Realises}
 use Rattle.promise.proofs.SeriesLaws.{series-whole}
 use Rattle.promise.proofs.FreshLaws.{is-fresh}
 use Rattle.promise.proofs.AnsweredLaws.{no-fault-none, answered-exact}
-use Rattle.promise.proofs.CalledLaws.{called-right}
-use Rattle.promise.proofs.OneFrame.{one-frame-length, completed, word-in, one-frame-series}
-use Rattle.promise.proofs.OneRun.{only, only-small, only-one, FineBefore, right-fits}
-use Rattle.promise.proofs.RealiseLaws.{realises-fits, fits-realises}
-use Rattle.promise.proofs.BoundLaws.{read-stages}
+use Rattle.realise.proofs.CalledLaws.{called-right}
+use Rattle.realise.proofs.OneFrame.{one-frame-length, completed, word-in, one-frame-series}
+use Rattle.realise.proofs.OneRun.{only, only-small, only-one, FineBefore, right-fits}
+use Rattle.realise.proofs.RealiseLaws.{realises-fits, fits-realises}
+use Rattle.realise.proofs.BoundLaws.{read-stages}
 
 module _ {e : Edition} {n k : ℕ} {C s : List ℕ} (within : k ≤ n) (order : Order n C) (formed : WellFormed e n k s) where
   pub realises-right : Realises e n k C s → Right e n k C s

@@ -37,13 +37,13 @@ use Rattle.memory.proofs.CountLaws.{put-in}
 use Rattle.call.specs.Call.{placesOf, readsOf, writesOf, accessOf, Outcome, carriedOut}
 use Rattle.call.proofs.PlaceLaws.{places-at, places-length, places-clash, places-below}
 use Rattle.call.proofs.CallLaws.{call-given, call-done}
 use Rattle.promise.specs.Series.{callAt, dueCall, duePort, oneFrame}
 use Rattle.promise.specs.Seen.{Leaves}
 use Rattle.promise.specs.Run.{Stand, standing}
 use Rattle.promise.specs.Answered.{freshStand, stands, outcomeAt, seenAt, called}
-use Rattle.promise.proofs.Fits.{BanksApart, FitsOrder}
+use Rattle.realise.proofs.Fits.{BanksApart, FitsOrder}
 use Rattle.promise.proofs.AnsweredLaws.{nothing-wrong}
-use Rattle.promise.proofs.OneFrame.{one-frame-length, came, came-at, some-came, blank-call}
+use Rattle.realise.proofs.OneFrame.{one-frame-length, came, came-at, some-came, blank-call}
 
 -- the state before call c of the frame, and before blank call c after it
 abbrev coming : ℕ → ℕ → State

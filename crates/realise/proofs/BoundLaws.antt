@@ -23,9 +23,9 @@ use Rattle.sheet.specs.Layout.{InRange, WellFormed}
 use Rattle.switches.specs.Cells.{cellOf}
 use Rattle.switches.proofs.StageLaws.{stages-rank, selected}
 use Rattle.switches.proofs.CellLaws.{bank-parts, bank-of-cell, wiring-part}
-use Rattle.promise.specs.Agreement.{Invertible}
-use Rattle.promise.specs.Realises.{Realises}
-use Rattle.promise.proofs.RealiseLaws.{apart-wired, realises-fits}
+use Rattle.realise.specs.Agreement.{Invertible}
+use Rattle.realise.specs.Realises.{Realises}
+use Rattle.realise.proofs.RealiseLaws.{apart-wired, realises-fits}
 
 module _ (n k : ℕ) (W R : Side) (C : List ℕ) (within : k ≤ n) (write : InRange n k W) (read : InRange n k R)
     (places : (i : ℕ) → i < 2 ^ n → cellOf k W i ≡ cellOf k R (place C i)) where

@@ -40,10 +40,10 @@ use Rattle.memory.proofs.CountLaws.{put-in}
 use Rattle.call.specs.Call.{placeIn, placesOf, readsOf, writesOf, accessOf, call}
 use Rattle.call.proofs.PlaceLaws.{came-all, places-clash, halves-apart, places-at, places-length, places-below}
 use Rattle.call.proofs.CallLaws.{call-given}
 use Rattle.promise.proofs.SeriesLaws.{WholeTick}
 use Rattle.promise.specs.Run.{Stand, Fresh}
-use Rattle.promise.proofs.Fits.{BanksApart, FitsOrder}
+use Rattle.realise.proofs.Fits.{BanksApart, FitsOrder}
 use Rattle.promise.proofs.FreshLaws.{fresh-possible}
 
 pub record Cell (m : Memory) (x : ℕ) (Here : Type 0) (w : ℕ) : Type 0 where
   pub filled : Here → Filled (m .marks) x

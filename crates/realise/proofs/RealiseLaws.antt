@@ -24,9 +24,9 @@ use Rattle.sheet.specs.Sheet.{Side, writeSide, readSide}
 use Rattle.sheet.specs.Layout.{InRange, WellFormed}
 use Rattle.switches.specs.Cells.{cellOf, M, N}
 use Rattle.switches.proofs.CellLaws.{same-bank, word-bank, wiring-part, cell-into}
-use Rattle.promise.specs.Agreement.{Invertible, ShareCell}
-use Rattle.promise.specs.Realises.{Realises}
-use Rattle.promise.proofs.Fits.{BanksApart, FitsOrder}
+use Rattle.realise.specs.Agreement.{Invertible, ShareCell}
+use Rattle.realise.specs.Realises.{Realises}
+use Rattle.realise.proofs.Fits.{BanksApart, FitsOrder}
 
 module _ (n : ℕ) (f : ℕ → ℕ) where
   own-injective : ¬ ShareCell n f → Injective f (2 ^ n)

@@ -18,15 +18,15 @@ use Rattle.state.specs.declared.Clock.{Clock}
 use Rattle.state.proofs.StateLaws.{next-clock}
 use Rattle.call.specs.Call.{Outcome, carriedOut}
 use Rattle.call.proofs.CallLaws.{call-done, call-leaving}
 use Rattle.promise.proofs.SeriesLaws.{WholeTicks, word-comes}
 use Rattle.promise.specs.Series.{callAt, wordIn, TickDue}
 use Rattle.promise.specs.Seen.{Seen, Leaves, RightOver}
 use Rattle.promise.specs.Run.{Stand, Fresh, incoming, outgoing}
 use Rattle.promise.specs.Answered.{standAfter, seenOf, seenAt, called}
-use Rattle.promise.proofs.Fits.{FitsOrder}
+use Rattle.realise.proofs.Fits.{FitsOrder}
 use Rattle.promise.proofs.FreshLaws.{fresh-clock}
-use Rattle.promise.proofs.HalfLaws.{Held, Brings, held-fresh, held-sound, held-word, held-stays, held-turns}
+use Rattle.realise.proofs.HalfLaws.{Held, Brings, held-fresh, held-sound, held-word, held-stays, held-turns}
 use Rattle.promise.proofs.FamilyLaws.{Now, Keeps, family-right, family-hands}
 
 module _ {n k : ℕ} (within : k ≤ n) {P f g : ℕ → ℕ → ℕ} (fits : (F : ℕ) → FitsOrder n k (P F) (f F) (g F)) (S : List (List ℕ)) (whole : WholeTicks k S) where
   abbrev clock : Stand → Clock

@@ -16,7 +16,7 @@ use Rattle.price.specs.Price.{refusalOfPrice}
 use Rattle.price.specs.declared.Priced.{Priced}
 use Rattle.price.proofs.PriceLaws.{prices-unique}
 use Rattle.memory.specs.Memory.{Memory}
-use Rattle.call.specs.Tool.{Left, refusalOfRun, stateAfter}
+use Rattle.call.specs.Tool.{After, refusalOfRun, stateAfter}
 use Rattle.call.specs.declared.RunAnswer.{RunAnswer}
 use Rattle.run.proofs.ToolLaws.{ticks-unique}
 use Rattle.board.specs.Names.{Numbers, Besides, stateIn, stateOut, saidAfter, Buffers, lentIn, RunsAs, sumsAfter, PricesAs}
@@ -43,10 +43,10 @@ ticks-as-unique {e} {n} {k} {s} {ws} {b} f g =
     besides-unique
     (λ (d, t, told) (c, w, also).
     let left = ticks-unique e n k s (lentIn ws b) t w in
-    let same = ap (λ (l : Left). l .answer) left in (
+    let same = ap (λ (l : After). l .answer) left in (
       told .number ∙ ap (λ (z : RunAnswer). given (refusalOfRun z)) same ∙ sym (also .number),
-      same-buffers (told .state ∙ ap (λ (z : RunAnswer). stateOut (stateAfter (stateIn (b .state)) z)) same ∙ sym (also .state)) (ap (λ (l : Left). l .memory) left)
-          (ap (λ (l : Left). l .out) left) (told .said ∙ ap (λ (z : RunAnswer). saidAfter z (b .said)) same ∙ sym (also .said)),
+      same-buffers (told .state ∙ ap (λ (z : RunAnswer). stateOut (stateAfter (stateIn (b .state)) z)) same ∙ sym (also .state)) (ap (λ (l : After). l .memory) left)
+          (ap (λ (l : After). l .out) left) (told .said ∙ ap (λ (z : RunAnswer). saidAfter z (b .said)) same ∙ sym (also .said)),
     ))
     (λ kept also. kept ∙ sym also)
     (f .tool)

@@ -43,13 +43,13 @@ use Rattle.faults.specs.Table.{faults}
 use Rattle.memory.specs.Memory.{Memory, Access, wordsAt, served}
 use Rattle.memory.specs.Serving.{serveTable, Serves}
 use Rattle.call.specs.Call.{readsOf, writesOf, accessOf, Outcome, call}
-use Rattle.call.specs.Tool.{Lent, Left, Lengths, lengthsOf, runLengths, callTable, refusalOfRun, stateAfter, handedOut, ComesOf, Calls}
+use Rattle.call.specs.Tool.{Lent, After, Lengths, lengthsOf, runLengths, callTable, refusalOfRun, stateAfter, handedOut, ComesOf, Calls}
 use Rattle.call.specs.declared.RunAnswer.{RunAnswer}
 use Rattle.call.specs.declared.RunAnswer.the-variants.{Done, Refused}
 use Rattle.call.proofs.PlaceLaws.{came-few, reads-few, writes-length}
 use Rattle.call.proofs.CallLaws.{call-given, call-refused, call-done, call-past}
 
-comes-by : {o x : Outcome} {b : Lent} {l : Left} → o ≡ x → ComesOf x b l → ComesOf o b l
+comes-by : {o x : Outcome} {b : Lent} {l : After} → o ≡ x → ComesOf x b l → ComesOf o b l
 comes-by e c = rw e c
 
 module _ (t : List Reason) (n k : ℕ) (f g : ℕ → ℕ) (b : Lent) where
@@ -78,7 +78,7 @@ module _ (t : List Reason) (n k : ℕ) (f g : ℕ → ℕ) (b : Lent) where
   pub comes-checked : (r : Answer) {x : Refusal} → said r ≡ firstOf t → r ≡ Answer.Refused x → ComesOf this b (record { answer = Refused x; memory = b .memory; out = b .out })
   comes-checked r given is = comes-refused (first-before t _ (sym given ∙ ap said is)) refl refl
 
-  pub comes-past : (u : List Reason) {l : Left} → firstOf t ≡ none → firstOf u ≡ none → ComesOf (call u n k f g (b .state) (b .came) (b .memory)) b l → ComesOf this b l
+  pub comes-past : (u : List Reason) {l : After} → firstOf t ≡ none → firstOf u ≡ none → ComesOf (call u n k f g (b .state) (b .came) (b .memory)) b l → ComesOf this b l
   comes-past u given none-given = comes-by (call-past t n k f g (b .state) (b .came) (b .memory) given ∙ sym (call-past u n k f g (b .state) (b .came) (b .memory) none-given))
 
 same-answer : (st : State) (a b : RunAnswer) → refusalOfRun a ≡ refusalOfRun b → stateAfter st a ≡ stateAfter st b → handedOut a ≡ handedOut b → a ≡ b
@@ -88,10 +88,10 @@ same-answer st (Refused x) (Done q i) r s t = none-some (sym r)
 same-answer st (Refused x) (Refused y) r s t = cc
 
 same-left : {a b : RunAnswer} {m v : Memory} {o u : List ℕ} → a ≡ b → m ≡ v → o ≡ u
-    → _≡_ {A = Left} (record { answer = a; memory = m; out = o }) (record { answer = b; memory = v; out = u })
+    → _≡_ {A = After} (record { answer = a; memory = m; out = o }) (record { answer = b; memory = v; out = u })
 same-left answer memory out = cc
 
-pub comes-unique : {o : Outcome} {b : Lent} {l r : Left} → ComesOf o b l → ComesOf o b r → l ≡ r
+pub comes-unique : {o : Outcome} {b : Lent} {l r : After} → ComesOf o b l → ComesOf o b r → l ≡ r
 comes-unique {b = b} {l = l} {r = r} x y =
     same-left (same-answer (b .state) (l .answer) (r .answer) (x .refusal ∙ sym (y .refusal)) (x .state ∙ sym (y .state)) (x .handed ∙ sym (y .handed)))
     (x .memory ∙ sym (y .memory)) (x .buffer ∙ sym (y .buffer))
@@ -107,12 +107,12 @@ module _ (e : Edition) (n k : ℕ) (w r : OpenSide) (b : Lent) where
     as-it-came = λ _ _. (refl, refl);
   }
 
-  pub calls-past : {l : Left} → firstOf table ≡ none
+  pub calls-past : {l : After} → firstOf table ≡ none
       → ((W R : Side) → Shows n k w W → Shows n k r R → ComesOf (call table n k (cellOf k W) (cellOf k R) (b .state) (b .came) (b .memory)) b l)
       → ((x : Refusal) → refusalOfRun (l .answer) ≡ some x → (l .memory ≡ b .memory) × (l .out ≡ b .out)) → Calls e n k w r b l
   calls-past given over kept = record { before = λ x applies. none-some (sym given ∙ applies); over = over; as-it-came = kept }
 
-  module _ {l q : Left} (x : Calls e n k w r b l) (y : Calls e n k w r b q) where
+  module _ {l q : After} (x : Calls e n k w r b l) (y : Calls e n k w r b q) where
     pub calls-unique : {W R : Side} → Shows n k w W → Shows n k r R → l ≡ q
     calls-unique write read = comes-unique (x .over _ _ write read) (y .over _ _ write read)
 

@@ -1,6 +1,6 @@
 -- A call as a tool: what it is lent and what it leaves, when it is refused, and what is answered.
 --   Lent                   what a call is lent: the state, the words that came, the memory and the out buffer
---   Left                   what it leaves: the answer, and the memory and the out buffer afterwards
+--   After                  what it leaves: the answer, and the memory and the out buffer afterwards
 --   Lengths                the lengths that are lent: of the words that came, of the out buffer, and of the words and the marks of the memory
 --   lengthsOf b            those of what is lent
 --   runLengths n k l       the lengths l, and what is wanted of each: "tick 2^k or 0, tick out 2^k, words and marks 2^(n+1)"
@@ -42,7 +42,7 @@ pub record Lent : Type 0 where
   pub memory : Memory
   pub out : List ℕ
 
-pub record Left : Type 0 where
+pub record After : Type 0 where
   pub answer : RunAnswer
   pub memory : Memory
   pub out : List ℕ
@@ -74,14 +74,14 @@ abbrev pub handedOut : RunAnswer → Bool
 handedOut (Done st handed) = handed
 handedOut (Refused x) = false
 
-pub record ComesOf (o : Outcome) (b : Lent) (l : Left) : Type 0 where
+pub record ComesOf (o : Outcome) (b : Lent) (l : After) : Type 0 where
   pub refusal : refusalOfRun (l .answer) ≡ o .refusal
   pub state : stateAfter (b .state) (l .answer) ≡ o .state
   pub handed : handedOut (l .answer) ≡ o .handed
   pub memory : l .memory ≡ o .memory
   pub buffer : l .out ≡ overFront (o .leaving) (b .out)
 
-pub record Calls (e : Edition) (n k : ℕ) (w r : OpenSide) (b : Lent) (l : Left) : Type 0 where
+pub record Calls (e : Edition) (n k : ℕ) (w r : OpenSide) (b : Lent) (l : After) : Type 0 where
   pub before : (x : Refusal) → firstOf (callTable e n k (b .state) (lengthsOf b)) ≡ some x → ComesOf (refused x (b .state) (b .memory)) b l
   pub over : (W R : Side) → Shows n k w W → Shows n k r R
       → ComesOf (call (callTable e n k (b .state) (lengthsOf b)) n k (cellOf k W) (cellOf k R) (b .state) (b .came) (b .memory)) b l

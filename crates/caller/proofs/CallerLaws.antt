@@ -29,7 +29,7 @@ use Rattle.switches.specs.Cells.{M, N}
 use Rattle.state.specs.declared.State.{State}
 use Rattle.memory.specs.Memory.{Memory, filledMarks}
 use Rattle.call.specs.Call.{Outcome}
-use Rattle.call.specs.Tool.{Lent, Left, stateAfter, handedOut, ComesOf}
+use Rattle.call.specs.Tool.{Lent, After, stateAfter, handedOut, ComesOf}
 use Rattle.call.specs.declared.RunAnswer.{RunAnswer}
 use Rattle.call.specs.declared.RunAnswer.the-variants.{Done, Refused}
 use Rattle.call.proofs.CallLaws.{call-refused, call-leaving, call-idle}
@@ -50,7 +50,7 @@ answer-of : Option Refusal → Outcome → RunAnswer
 answer-of none o = Done (o .state) (o .handed)
 answer-of (some x) o = Refused x
 
-left-of : Lent → Outcome → Left
+left-of : Lent → Outcome → After
 left-of b o = record { answer = answer-of (o .refusal) o; memory = o .memory; out = overFront (o .leaving) (b .out) }
 
 comes-by : (r : Option Refusal) (o : Outcome) (b : Lent) → o .refusal ≡ r → ((x : Refusal) → r ≡ some x → (o .state ≡ b .state) × (o .handed ≡ false))
@@ -81,7 +81,7 @@ module _ (e : Edition) (n k : ℕ) (s : List ℕ) (S : List (List ℕ)) (x : Sta
   unfolding standing left-of
   memory-after j = refl
 
-  pub made-exists : (b : ℕ → Lent) × (l : ℕ → Left) × Made e n k s S b l × (startOf b ≡ x) × ((j : ℕ) → b j .out ≡ out j)
+  pub made-exists : (b : ℕ → Lent) × (l : ℕ → After) × Made e n k s S b l × (startOf b ≡ x) × ((j : ℕ) → b j .out ≡ out j)
   unfolding standing
   made-exists = (
     lent-in,
@@ -119,7 +119,7 @@ module _ (e : Edition) (n k : ℕ) (s : List ℕ) (b : Lent) where
           whole-buffer (this .leaving) (b .out)
           (call-leaving before n k (M e n k s) (N e n k s) (b .state) (b .came) (b .memory) ∙ ap (λ (h : Bool). cond h (2 ^ k) 0) busy ∙ sym room)
 
-module _ {e : Edition} {n k : ℕ} {s : List ℕ} {S : List (List ℕ)} {b : ℕ → Lent} {l : ℕ → Left} (made : Made e n k s S b l) where
+module _ {e : Edition} {n k : ℕ} {s : List ℕ} {S : List (List ℕ)} {b : ℕ → Lent} {l : ℕ → After} (made : Made e n k s S b l) where
   abbrev tool : ℕ → Stand → Outcome
   tool = toolCall e n k s S (λ j. b j .out)
 
@@ -176,7 +176,7 @@ module _ {e : Edition} {n k : ℕ} {s : List ℕ} {S : List (List ℕ)} {b : ℕ
         subst (λ (o : Seen). Says (o .handed) (TickDue 0 n k S j)) (sym (made-seen j h))
         (tool-hands e n k s S (λ j. b j .out) (startOf b) sized whole formed room fresh series order right j h)
 
-module _ {e : Edition} {n k : ℕ} {s : List ℕ} {S R : List (List ℕ)} {b c : ℕ → Lent} {l u : ℕ → Left} (made : Made e n k s S b l) (other : Made e n k s R c u) where
+module _ {e : Edition} {n k : ℕ} {s : List ℕ} {S R : List (List ℕ)} {b c : ℕ → Lent} {l u : ℕ → After} (made : Made e n k s S b l) (other : Made e n k s R c u) where
   pub made-alone : Sized e n k → length s ≡ sheetPlaces e → WellFormed e n k s → {C : List ℕ} → Order n C → Right e n k C s
       → ((j : ℕ) → j < length S → length (b j .out) ≡ 2 ^ k) → ((j : ℕ) → j < length R → length (c j .out) ≡ 2 ^ k)
       → Fresh n k (startOf b) → Fresh n k (startOf c) → Series k S → Series k R → SamePattern S R

@@ -8,13 +8,13 @@ use mathlib.Core.Bool.{cond}
 use mathlib.Core.List.{List, []}
 use lib.ListN.{length}
 use Rattle.kinds.specs.Edition.{Edition}
-use Rattle.call.specs.Tool.{Lent, Left, refusalOfRun, stateAfter, handedOut}
+use Rattle.call.specs.Tool.{Lent, After, refusalOfRun, stateAfter, handedOut}
 use Rattle.run.specs.Tool.{Runs}
 use Rattle.promise.specs.Series.{callAt}
 use Rattle.promise.specs.Seen.{Seen}
 use Rattle.promise.specs.Run.{Stand}
 
-pub record Made (e : Edition) (n k : ℕ) (s : List ℕ) (S : List (List ℕ)) (b : ℕ → Lent) (l : ℕ → Left) : Type 0 where
+pub record Made (e : Edition) (n k : ℕ) (s : List ℕ) (S : List (List ℕ)) (b : ℕ → Lent) (l : ℕ → After) : Type 0 where
   pub brings : (j : ℕ) → j < length S → b j .came ≡ callAt S j
   pub answered : (j : ℕ) → j < length S → Runs e n k s (b j) (l j)
   pub state-on : (j : ℕ) → j < length S → b (suc j) .state ≡ stateAfter (b j .state) (l j .answer)
@@ -23,5 +23,5 @@ pub record Made (e : Edition) (n k : ℕ) (s : List ℕ) (S : List (List ℕ)) (
 abbrev pub startOf : (ℕ → Lent) → Stand
 startOf b = record { state = b 0 .state; memory = b 0 .memory }
 
-abbrev pub seenBy : Left → Seen
+abbrev pub seenBy : After → Seen
 seenBy l = record { refusal = refusalOfRun (l .answer); handed = handedOut (l .answer); leaving = cond (handedOut (l .answer)) (l .out) [] }

@@ -10,7 +10,7 @@
 --   mostColumns        a number takes a byte at least, and what ends it another; two of the numbers are n and k
 --   ReadsAs d r        r says what the card says: 15 where it is unreadable; n, k, and the columns, with zeros after them
 --   Reads b r          what is read of the card b
---   cardTable e d others           15, then 1 to 4, of the order on the card, where others are the lengths that were lent, and what they should be
+--   cardTable e d beside           15, then 1 to 4, of the order on the card, where beside are the lengths that were lent, and what they should be
 use Prim.Native.Nat.{ℕ, _-_, _/_, _≤_}
 use mathlib.Core.Path.{_≡_}
 use mathlib.Core.List.{List, [], _∷_}
@@ -70,4 +70,4 @@ abbrev pub Reads : List ℕ → Reading → Type 0
 Reads b r = (d : Dec (Readable b)) → ReadsAs d r
 
 abbrev pub cardTable : {b : List ℕ} → Edition → Dec (Readable b) → List (ℕ × Wanted) → List Reason
-cardTable e d others = unreadable d ∷ orderTable (Sized e (nOn d) (kOn d)) (sized? e (nOn d) (kOn d)) (nOn d) (columnsOn d) others
+cardTable e d beside = unreadable d ∷ orderTable (Sized e (nOn d) (kOn d)) (sized? e (nOn d) (kOn d)) (nOn d) (columnsOn d) beside

@@ -23,7 +23,7 @@ abbrev pub Says : Bool → Type 0 → Type 0
 Says b A = (b ≡ true) ↔ A
 
 abbrev pub Checks : (List (ℕ × Wanted) → List Reason) → Bool → Answer → Type 0
-Checks t fits r = (others : List (ℕ × Wanted)) → Says fits (RightLengths others) → said r ≡ firstOf (t others)
+Checks t fits r = (beside : List (ℕ × Wanted)) → Says fits (RightLengths beside) → said r ≡ firstOf (t beside)
 
 pub record Answers (t : List Reason) (o : Option Refusal) (D K : Type 0) : Type 0 where
   pub first-of : o ≡ firstOf t

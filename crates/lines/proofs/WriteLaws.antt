@@ -17,12 +17,12 @@ use native.Mathlib.Decide.{decLe}
 use native.Mathlib.Omega.{arith}
 use lib.ListN.{length, set, length-append}
 use lib.Seq.{sets, length-sets}
-use Rattle.lines.specs.Written.{Fits, Writes, Puts}
+use Rattle.lines.specs.Written.{RoomFor, Writes, Puts}
 
-pub puts-no : {w : List ℕ} {at : ℕ} {x : List ℕ} → ¬ Fits w at x → Puts w at x x at
+pub puts-no : {w : List ℕ} {at : ℕ} {x : List ℕ} → ¬ RoomFor w at x → Puts w at x x at
 puts-no no-room = record { written = λ fits. absurd (no-room fits); refused = λ _. (refl, refl) }
 
-pub puts-yes : {w : List ℕ} {at : ℕ} {x x' : List ℕ} {r : ℕ} → Fits w at x → Writes w at x x' r → Puts w at x x' r
+pub puts-yes : {w : List ℕ} {at : ℕ} {x x' : List ℕ} {r : ℕ} → RoomFor w at x → Writes w at x x' r → Puts w at x x' r
 puts-yes fits wrote = record { written = λ _. wrote; refused = λ no-room. absurd (no-room fits) }
 
 pub puts-unique : {w : List ℕ} {at : ℕ} {x y z : List ℕ} {r q : ℕ} → Puts w at x y r → Puts w at x z q → (r ≡ q) × (y ≡ z)
@@ -55,12 +55,12 @@ module _ {v : List ℕ} {at : ℕ} {x y : List ℕ} {r : ℕ} (first : Writes v 
   }
 
 pub record Left (w : List ℕ) (at : ℕ) (x v : List ℕ) (r : ℕ) (y : List ℕ) : Type 0 where
-  pub fits : Fits w at x
+  pub fits : RoomFor w at x
   pub same : length y ≡ length x
   pub next : r + length v ≡ at + length w
   pub text : sets y r v ≡ sets x at w
 
-pub left-all : {w : List ℕ} {at : ℕ} {x : List ℕ} → Fits w at x → Left w at x w at x
+pub left-all : {w : List ℕ} {at : ℕ} {x : List ℕ} → RoomFor w at x → Left w at x w at x
 left-all fits = record { fits = fits; same = refl; next = refl; text = refl }
 
 module _ {w : List ℕ} {at : ℕ} {x v : List ℕ} {r : ℕ} {y : List ℕ} (left : Left w at x v r y) where

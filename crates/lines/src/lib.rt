@@ -5,7 +5,7 @@ ghost use lib.ListN.{length};
 ghost use Rattle.kinds.specs.Answers.{Says};
 ghost use Rattle.text.specs.Decimal.{decimal};
 ghost use Rattle.lines.specs.Line.{lineEnd, line};
-ghost use Rattle.lines.specs.Written.{Fits, Writes, Puts};
+ghost use Rattle.lines.specs.Written.{RoomFor, Writes, Puts};
 
 // No number of 32 bits has more, and none takes more after a space.
 const MOST_DIGITS: usize = 10;
@@ -112,7 +112,7 @@ fn width(number: u32) -> usize
 
 // The numbers, each after a space, and the newline.
 fn put_numbers(text: &mut [u8], at: usize, numbers: &[u32]) -> usize
-    requires { ⌜ Fits (lineEnd (now numbers)) at (now text) ⌝ }
+    requires { ⌜ RoomFor (lineEnd (now numbers)) at (now text) ⌝ }
     ensures { λ r. ⌜ Writes (lineEnd (now (numbers .entry))) at (now (text .entry)) (now (text .exit)) r ⌝ }
 {
     let mut place = at;
@@ -128,7 +128,7 @@ fn put_numbers(text: &mut [u8], at: usize, numbers: &[u32]) -> usize
 }
 
 fn put_digits(text: &mut [u8], at: usize, number: u32) -> usize
-    requires { ⌜ Fits (decimal number) at (now text) ⌝ }
+    requires { ⌜ RoomFor (decimal number) at (now text) ⌝ }
     ensures { λ r. ⌜ Writes (decimal number) at (now (text .entry)) (now (text .exit)) r ⌝ }
 {
     let mut place = at;

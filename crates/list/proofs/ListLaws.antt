@@ -27,7 +27,7 @@ use Rattle.kinds.specs.Answers.{overFront}
 use Rattle.bits.proofs.PaddedLaws.{padded-part}
 use Rattle.card.specs.Card.{mostColumns, Readable, columnsOn, unreadable, ReadsAs, cardTable}
 use Rattle.lines.specs.Line.{spaced, line}
-use Rattle.lines.specs.Written.{Fits, Writes}
+use Rattle.lines.specs.Written.{RoomFor, Writes}
 use Rattle.list.specs.Listing.{listing}
 use Rattle.list.specs.Tool.{listingOf, printed, PrintsAs}
 use Rattle.card.specs.declared.Reading.{Reading}
@@ -55,7 +55,7 @@ module _ {b : List ℕ} (d : Dec (Readable b)) (others : List (ℕ × Wanted)) (
       (first-alike _ _ _ _ refl (λ a. a, λ a. a)
       (first-alike _ _ _ _ refl (λ wrong r. wrong (r .0, right), λ wrong r. wrong (r .0, tt)) refl))
 
-pub writes-onto : {w x y : List ℕ} {r : ℕ} → Writes w 0 x y r → Fits w 0 x → y ≡ overFront w x
+pub writes-onto : {w x y : List ℕ} {r : ℕ} → Writes w 0 x y r → RoomFor w 0 x → y ≡ overFront w x
 writes-onto {w} {x} wrote fits = wrote .text ∙ sets-eq w x 0 fits ∙ ap (λ (i : ℕ). w ++ drop i x) {x = 0 + length w} {y = length w} (omega arith)
 
 pub refusal-short : (x : ℕ) → x < 2 ^ 32 → length (line (codes "refused") (x ∷ [])) ≤ 19

@@ -8,7 +8,7 @@ ghost use Rattle.kinds.specs.Edition.{edition1};
 ghost use Rattle.kinds.specs.Lengths.{exactly, atLeast, RightLengths};
 ghost use Rattle.bits.specs.Padded.{paddedTo};
 ghost use Rattle.lines.specs.Line.{line};
-ghost use Rattle.lines.specs.Written.{Fits, Writes};
+ghost use Rattle.lines.specs.Written.{RoomFor, Writes};
 ghost use Rattle.list.specs.Listing.{listing};
 ghost use Rattle.list.specs.Tool.{textPlaces, Lists, Prints};
 ghost use Rattle.list.specs.Inside.{countedStages, Counted, tickLines, Frames, Tried, trialText, Listable};
@@ -81,7 +81,7 @@ fn list_order(n: u32, k: u32, columns: &[u16], text: &mut [u8]) -> usize
 // The sizes, the stages of both sides, and the ticks out.
 fn put_trial(text: &mut [u8], n: u32, k: u32, sheet: &[u16], frame: &[u32]) -> usize
     requires { ⌜ Tried k (now sheet) (now frame) ⌝ }
-    requires { ⌜ Fits (trialText n k (now sheet) (now frame)) 0 (now text) ⌝ }
+    requires { ⌜ RoomFor (trialText n k (now sheet) (now frame)) 0 (now text) ⌝ }
     ensures { λ r. ⌜ Writes (trialText n k (now (sheet .entry)) (now (frame .entry))) 0 (now (text .entry)) (now (text .exit)) r ⌝ }
 {
     let sizes = [n, k];
@@ -96,7 +96,7 @@ fn put_trial(text: &mut [u8], n: u32, k: u32, sheet: &[u16], frame: &[u32]) -> u
 // A line for one side: the count, and then as many stages.
 fn put_side(text: &mut [u8], at: usize, name: &[u8], places: &[u16]) -> usize
     requires { ⌜ Counted (now places) ⌝ }
-    requires { ⌜ Fits (line (now name) (countedStages (now places))) at (now text) ⌝ }
+    requires { ⌜ RoomFor (line (now name) (countedStages (now places))) at (now text) ⌝ }
     ensures { λ r. ⌜ Writes (line (now (name .entry)) (countedStages (now (places .entry)))) at (now (text .entry)) (now (text .exit)) r ⌝ }
 {
     let end = 1 + 2 * places[0] as usize;
@@ -120,7 +120,7 @@ fn widened(numbers: &[u16]) -> [u32; 17]
 // A line for each tick of the frame.
 fn put_ticks(text: &mut [u8], at: usize, k: u32, frame: &[u32]) -> usize
     requires { ⌜ Frames k (now frame) ⌝ }
-    requires { ⌜ Fits (tickLines k (now frame)) at (now text) ⌝ }
+    requires { ⌜ RoomFor (tickLines k (now frame)) at (now text) ⌝ }
     ensures { λ r. ⌜ Writes (tickLines k (now (frame .entry))) at (now (text .entry)) (now (text .exit)) r ⌝ }
 {
     let ports = bits::two_to(k) as usize;

@@ -1,8 +1,8 @@
 -- When an order is refused (01, 'When a tool says no', 1 to 4).
 --   tooLarge n C              3: a column is 2^n or more
 --   dependent C               4: columns dependent
---   columnTable n Cs others   2 to 4 of the lists of columns Cs, 2 for any of them, then 3 for any, then 4 for any, where the lengths lent beside them, and what they should be, are others
---   orderTable S d n C others   1 to 4 of the one list C, where S says that the sizes are right, and d decides it
+--   columnTable n Cs beside   2 to 4 of the lists of columns Cs, 2 for any of them, then 3 for any, then 4 for any, where the lengths lent beside them, and what they should be, are beside
+--   orderTable S d n C beside   1 to 4 of the one list C, where S says that the sizes are right, and d decides it
 --   inverseLengths n out, moverLengths n frame out          the lengths lent to the inverse and to the mover beside the columns
 --   inverseTable e n C out, moverTable e n C frame out      their tables: they take no k
 use Prim.Native.Nat.{ℕ, _^_}
@@ -26,10 +26,10 @@ abbrev pub dependent : List ℕ → Reason
 dependent C = unless Dependent (Independent C) (independent? C)
 
 abbrev pub columnTable : ℕ → List (List ℕ) → List (ℕ × Wanted) → List Reason
-columnTable n Cs others = wrongLength (map (λ C. (length C, exactly n)) Cs ++ others) ∷ map (tooLarge n) Cs ++ map dependent Cs
+columnTable n Cs beside = wrongLength (map (λ C. (length C, exactly n)) Cs ++ beside) ∷ map (tooLarge n) Cs ++ map dependent Cs
 
 abbrev pub orderTable : (S : Type 0) → Dec S → ℕ → List ℕ → List (ℕ × Wanted) → List Reason
-orderTable S d n C others = outside S d ∷ columnTable n (C ∷ []) others
+orderTable S d n C beside = outside S d ∷ columnTable n (C ∷ []) beside
 
 abbrev pub inverseLengths : ℕ → List ℕ → List (ℕ × Wanted)
 inverseLengths n out = (length out, exactly n) ∷ []

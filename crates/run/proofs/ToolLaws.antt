@@ -26,7 +26,7 @@ use Rattle.state.specs.States.{Possible}
 use Rattle.state.specs.declared.State.{State}
 use Rattle.memory.specs.Memory.{filledMarks}
 use Rattle.call.specs.Call.{Outcome}
-use Rattle.call.specs.Tool.{Lent, Left, Lengths, handedOut}
+use Rattle.call.specs.Tool.{Lent, After, Lengths, handedOut}
 use Rattle.call.proofs.CallLaws.{call-given, call-idle, call-possible, call-filled}
 use Rattle.call.proofs.ToolLaws.{comes-unique}
 use Rattle.run.specs.Tool.{ChecksRun, beforeFaults, sheetCall, Runs}
@@ -58,11 +58,11 @@ module _ (e : Edition) (n k : ℕ) (s : List ℕ) (b : Lent) where
           came,
         )
 
-  pub ticks-idle : (l : Left) → Runs e n k s b l → handedOut (l .answer) ≡ false → l .out ≡ b .out
+  pub ticks-idle : (l : After) → Runs e n k s b l → handedOut (l .answer) ≡ false → l .out ≡ b .out
   ticks-idle l c idle =
       c .buffer ∙ ap (λ (x : List ℕ). overFront x (b .out)) (call-idle before n k (M e n k s) (N e n k s) (b .state) (b .came) (b .memory) (sym (c .handed) ∙ idle))
 
-  pub ticks-unique : {l r : Left} → Runs e n k s b l → Runs e n k s b r → l ≡ r
+  pub ticks-unique : {l r : After} → Runs e n k s b l → Runs e n k s b r → l ≡ r
   ticks-unique x y = comes-unique x y
 
 pub checks-run-unique : {e : Edition} {n k : ℕ} {s : List ℕ} {st : State} {l : Lengths} (r q : Opened) → ChecksRun e n k s st l r → ChecksRun e n k s st l q → r ≡ q

@@ -21,7 +21,7 @@ use Rattle.maps.specs.declared.Opened.{Opened}
 use Rattle.state.specs.Table.{impossible}
 use Rattle.state.specs.declared.State.{State}
 use Rattle.call.specs.Call.{Outcome, call}
-use Rattle.call.specs.Tool.{Lent, Left, Lengths, lengthsOf, runLengths, ComesOf}
+use Rattle.call.specs.Tool.{Lent, After, Lengths, lengthsOf, runLengths, ComesOf}
 
 abbrev pub checkTable : Edition → ℕ → ℕ → List ℕ → State → Lengths → List Reason
 checkTable e n k s st l = sheetTable e n k s (runLengths n k l) ++ impossible (ticks n k) st ∷ []
@@ -38,5 +38,5 @@ beforeFaults e n k s b = checkTable e n k s (b .state) (lengthsOf b)
 abbrev pub sheetCall : Edition → ℕ → ℕ → List ℕ → Lent → Outcome
 sheetCall e n k s b = call (beforeFaults e n k s b) n k (M e n k s) (N e n k s) (b .state) (b .came) (b .memory)
 
-abbrev pub Runs : Edition → ℕ → ℕ → List ℕ → Lent → Left → Type 0
+abbrev pub Runs : Edition → ℕ → ℕ → List ℕ → Lent → After → Type 0
 Runs e n k s b l = ComesOf (sheetCall e n k s b) b l

@@ -17,7 +17,7 @@ use Rattle.kinds.proofs.FrameLaws.{tick-lt, port-lt, word-lt, in-order-length, 
 use Rattle.memory.specs.Memory.{Memory}
 use Rattle.kinds.specs.Answers.{overFront}
 use Rattle.state.specs.declared.State.{State}
-use Rattle.call.specs.Tool.{Lent, Left, stateAfter, ComesOf}
+use Rattle.call.specs.Tool.{Lent, After, stateAfter, ComesOf}
 use Rattle.call.specs.declared.RunAnswer.{RunAnswer}
 use Rattle.run.specs.Tool.{Runs}
 use Rattle.promise.specs.Series.{callAt, Series, wordIn, frame, wordsOfTick}
@@ -72,7 +72,7 @@ module _ {n k : ℕ} {s : List ℕ} (run : Runnable n k s) where
         let l : p < 2 ^ k = rw part-long at b in
         part-at p l ∙ sym (came-at n k (λ i. i) c p h l))
 
-  call-comes : {j : ℕ} → j < 2 * T → {st : State} {ws ms out : List ℕ} {l : Left} → Here n k s j st ws ms → length out ≡ 2 ^ k → Runs edition1 n k s (lent st (callAt S j) ws ms out) l
+  call-comes : {j : ℕ} → j < 2 * T → {st : State} {ws ms out : List ℕ} {l : After} → Here n k s j st ws ms → length out ≡ 2 ^ k → Runs edition1 n k s (lent st (callAt S j) ws ms out) l
       → ComesOf (outcomeAt (calledOn edition1 n k s S) (freshStand n k) j) (lent st (callAt S j) ws ms out) l
   call-comes {j} h {out = out} here room goes =
       let reach : j < length S = rw whole h in

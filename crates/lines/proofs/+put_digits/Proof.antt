@@ -11,7 +11,7 @@ use borrow.Fn.Kinds.{In}
 use borrow.Fn.PlainCycle.{Measures, is, falls, and}
 use Rattle.text.specs.Decimal.{digit, decimal}
 use Rattle.text.proofs.DecimalLaws.{decimal-small, decimal-more}
-use Rattle.lines.specs.Written.{Fits, Writes}
+use Rattle.lines.specs.Written.{RoomFor, Writes}
 use Rattle.lines.proofs.WriteLaws.{Left, writes-none, writes-byte, left-all, left-more, left-done}
 use Rattle.lines.proofs.put_digits.Reads as put-digits
 use Rattle.lines.proofs.put_digits.Kinds as put-digits-kinds
@@ -31,7 +31,7 @@ put-digits-below t = and 1 put-digits-kinds.ps (falls 1 put-digits-kinds.ps _<_ 
 abbrev last : ℕ → List ℕ
 last number = digit (number % 10) ∷ []
 
-module _ {number at : ℕ} {x : List ℕ} (fits : Fits (decimal number) at x) where
+module _ {number at : ℕ} {x : List ℕ} (fits : RoomFor (decimal number) at x) where
   small : number < 10 → Left (decimal number) at x (last number) at x
   small h = left-more (left-all fits) (rw (decimal-small number h, mod-eq-of-lt h)) writes-none
 

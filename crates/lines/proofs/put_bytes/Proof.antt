@@ -10,7 +10,7 @@ use borrow.Author.Tests.{not-true, not-false}
 use lib.ListN.{length, getD, drop, set, drop-of-length-le}
 use lib.Seq.{drop-cons}
 use Rattle.kinds.proofs.TruthLaws.{denied}
-use Rattle.lines.specs.Written.{Fits, Writes}
+use Rattle.lines.specs.Written.{RoomFor, Writes}
 use Rattle.lines.proofs.WriteLaws.{puts-no, puts-yes, Left, left-all, left-more, left-done}
 use Rattle.lines.proofs.put_bytes.Statement.{statement}
 use Rattle.lines.proofs.put_bytes.Tie as tie
@@ -19,7 +19,7 @@ record Writing (bytes : List ℕ) (at : ℕ) (text₀ text : List ℕ) (i : ℕ)
   within : i ≤ length bytes
   left : Left bytes at text₀ (drop i bytes) (at + i) text
 
-start : {bytes : List ℕ} {at : ℕ} {text₀ : List ℕ} → Fits bytes at text₀ → Writing bytes at text₀ text₀ 0
+start : {bytes : List ℕ} {at : ℕ} {text₀ : List ℕ} → RoomFor bytes at text₀ → Writing bytes at text₀ text₀ 0
 start {at} fits = record { within = omega arith; left = rw (add-zero at) (left-all fits) }
 
 module _ {bytes : List ℕ} {at : ℕ} {text₀ text : List ℕ} {i : ℕ} (w : Writing bytes at text₀ text i) where

@@ -3,7 +3,7 @@ use borrow.Author.Needs.{needs}
 use borrow.Author.Tests.{not-true, not-false}
 use Rattle.kinds.proofs.TruthLaws.{denied}
 use Rattle.text.specs.Decimal.{decimal}
-use Rattle.lines.specs.Written.{Fits}
+use Rattle.lines.specs.Written.{RoomFor}
 use Rattle.lines.proofs.WriteLaws.{puts-no, puts-yes}
 use Rattle.lines.proofs.put_number.Statement.{statement}
 use Rattle.lines.proofs.put_number.Tie as tie
@@ -18,7 +18,7 @@ module _ (c : tie.Else1) where
   abbrev start : tie.Start
   start = c .before .before .before
 
-  fits : Fits (decimal (start .args .number)) (start .args .at) (start .args .text .now)
+  fits : RoomFor (decimal (start .args .number)) (start .args .at) (start .args .text .now)
   fits = c .before .number-fits .ensures .0 (not-false _ (c .if1 .left))
 
 put-digits-requires : tie.Need-put-digits-requires

@@ -9,7 +9,7 @@
 --   portsToZero k C      the "ports that P1 sends to 0"
 --   keptOfP3 n k C       the numbers of the rows of P3 that are kept, "taken only on ports that P1 sends to 0": "the kept are j1 < j2 < ..., k - r of them"
 --   readStages n k C     "stages (2^i1, 2^j1), (2^i2, 2^j2), ...": there are as many directions as controls (laws `other-rows` and `kept-rows`)
---   plannedRead n k C, plannedM n k C i, plannedWrite n k C, plannedSheet e n k C      the sides, M and the sheet with these read stages
+--   plannedRead n k C, plannedWrite n k C, plannedSheet e n k C      the sides and the sheet with these read stages
 -- And what it is good for:
 --   IsPlanned e n k C s  s is the planned sheet, number for number; it has the places of a sheet, is well-formed, and right for the order C; it has exactly k - rank P1 read stages, and no
 --                        well-formed sheet that is right for the order has fewer
@@ -66,9 +66,6 @@ readStages n k C = pairs (units (othersOfP1 k C)) (units (keptOfP3 n k C))
 
 abbrev pub plannedRead : ℕ → ℕ → List ℕ → Side
 plannedRead n k C = readWith n k (readStages n k C)
-
-abbrev pub plannedM : ℕ → ℕ → List ℕ → ℕ → ℕ
-plannedM n k C = mWith n k (readStages n k C) C
 
 abbrev pub plannedWrite : ℕ → ℕ → List ℕ → Side
 plannedWrite n k C = writeWith n k (readStages n k C) C

@@ -4,4 +4,5 @@ pub mod ImageLaws
 pub mod PaddedLaws
 pub mod FillLaws
 pub mod NextLaws
+pub mod WordLaws
 pub mod Cases

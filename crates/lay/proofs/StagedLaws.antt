@@ -2,12 +2,13 @@
 --   shown-part      the part of their array that is used is their numbers
 --   shown-read      stages that are read off the array are these
 --   new-shows, paired-shows       no stages, and stages that were paired, are shown; so all stages that can be had are
+--   adds-unique     one stage more makes one thing of stages that are shown
 --   lays-unique     a side is laid out in one way
 use Prim.Native.Nat.{ℕ, _-_, _*_}
 use mathlib.Core.Path.{_≡_, refl, sym, _∙_}
 use mathlib.Core.List.{List, []}
 use native.Mathlib.Omega.{arith}
-use native.Mathlib.Decide.{ℕ-discrete}
+use native.Mathlib.Decide.{ℕ-discrete, decLt}
 use lib.ListN.{length, take, length-take}
 use Rattle.kinds.specs.Edition.{edition1, sidePlaces}
 use Rattle.bits.specs.Padded.{arrayWidth, padded}
@@ -15,7 +16,7 @@ use Rattle.bits.proofs.PaddedLaws.{padded-at, padded-part}
 use Rattle.sheet.specs.Sheet.{Stage, stagesIn, flat}
 use Rattle.sheet.proofs.StageLaws.{same-stages}
 use Rattle.sheet.proofs.LayLaws.{flat-length, flat-stages}
-use Rattle.lay.specs.Staged.{pairs, staged, ShowsStages, Lays}
+use Rattle.lay.specs.Staged.{pairs, staged, ShowsStages, Adds, Lays}
 use Rattle.lay.specs.declared.Stages.{Stages}
 
 pub shown-part : (ss : List Stage) (m : ℕ) → m ≡ length ss → take (2 * m - 0) (padded (flat ss)) ≡ flat ss
@@ -35,3 +36,10 @@ lays-unique {ss = ss} {l = l} shown x y = elim (ℕ-discrete (length l) (sidePla
   | yes whole ↦ x .laid ss shown whole ∙ sym (y .laid ss shown whole)
   | no part ↦ x .no-side part ∙ sym (y .no-side part)
 ]
+
+pub adds-unique : {o : Stages} {ss : List Stage} {d c : ℕ} {r q : Stages} → ShowsStages o ss → Adds o d c r → Adds o d c q → r ≡ q
+adds-unique {ss = ss} shown x y =
+    elim (decLt (length ss) (edition1 .most-stages)) [
+      | yes few ↦ x .more ss shown few .is ∙ sym (y .more ss shown few .is)
+      | no full ↦ x .full ss shown (omega arith) ∙ sym (y .full ss shown (omega arith))
+    ]

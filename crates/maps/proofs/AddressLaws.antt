@@ -3,15 +3,18 @@
 --   addressable       columns in range may be the addresses
 --   readdresses-by, readdresses-not        how other addresses are taken, and how they are not
 --   readdressed-shows a side with whichever addresses it takes is shown
+--   readdresses-unique    taking other addresses has one answer
 use Prim.Native.Nat.{ℕ, _-_, _^_, _≤_}
 use mathlib.Core.Path.{_≡_, refl, sym, ap, _∙_}
 use mathlib.Core.List.{List, [], _∷_}
-use native.Mathlib.Decide.{decLt}
+use native.Mathlib.Decide.{decLt, decLe}
 use native.Mathlib.Omega.{arith}
 use lib.ListN.{length, getD, List·getD-eq-default}
 use lib.Pow.{pow-mono, pow-pos}
+use Rattle.kinds.specs.Decided.{both, through}
 use Rattle.kinds.specs.Frame.{tickBits}
 use Rattle.bits.specs.Image.{AllBelow}
+use Rattle.bits.specs.Decisions.{allBelow?}
 use Rattle.bits.specs.Padded.{arrayWidth, padded}
 use Rattle.bits.proofs.PaddedLaws.{padded-length, padded-at, padded-whole}
 use Rattle.sheet.specs.Sheet.{Stage, Side, flat}
@@ -85,3 +88,12 @@ pub readdressed-shows : {n k : ℕ} {o r : OpenSide} {S : Side} {A : List ℕ} �
     → Shows arrayWidth k r (readdressed A (wide S))
 readdressed-shows {k = k} {A = A} h long may readdresses =
     readdresses .shows arrayWidth k _ A (shown-wide h) (sym (padded-whole arrayWidth A long)) long (rw (shown-k h) at (may .below))
+
+addressable? : (k : ℕ) (A : List ℕ) → Dec (Addressable k A)
+addressable? k A = through (λ (p, b). record { ports = p; below = b }, λ may. (may .ports, may .below)) (both (decLe k arrayWidth) (allBelow? (2 ^ (arrayWidth - k)) A))
+
+pub readdresses-unique : {o : OpenSide} {A : List ℕ} {r q : OpenSide} → Readdresses o A r → Readdresses o A q → r ≡ q
+readdresses-unique {o} {A} x y = elim (addressable? (o .k) A) [
+  | yes may ↦ x .taken may ∙ sym (y .taken may)
+  | no not ↦ x .kept not ∙ sym (y .kept not)
+]

@@ -30,7 +30,8 @@ use Rattle.price.specs.declared.Priced.the-variants.{Costs, Refused as Unpriced
 use Rattle.memory.specs.Memory.{Memory}
 use Rattle.kinds.specs.Answers.{overFront}
 use Rattle.state.specs.declared.State.{State}
-use Rattle.call.specs.Tool.{Lent, After, refusalOfRun, stateAfter}
+use Rattle.lent.specs.Lent.{Lent}
+use Rattle.call.specs.Tool.{After, refusalOfRun, stateAfter}
 use Rattle.call.specs.declared.RunAnswer.{RunAnswer}
 use Rattle.call.specs.declared.RunAnswer.the-variants.{Done, Refused}
 use Rattle.run.specs.Tool.{Runs}

@@ -3,7 +3,8 @@ ghost use mathlib.Core.Path.{_≡_};
 ghost use mathlib.Core.List.{[], _∷_};
 ghost use Rattle.kinds.specs.Edition.{edition1};
 ghost use Rattle.kinds.specs.Refusal.{given, said as saidBy};
-ghost use Rattle.order.specs.Tools.{Inverts, Moves};
+ghost use Rattle.order.specs.Tools.{Inverts};
+ghost use Rattle.mover.specs.Tool.{Moves};
 ghost use Rattle.plan.specs.Tool.{Plans};
 ghost use Rattle.inspect.specs.Tool.{Inspects};
 ghost use Rattle.list.specs.Tool.{Lists};
@@ -44,7 +45,7 @@ pub extern "C" fn board_inspect(n: u32, k: u32, columns: &[u16], sheet: &[u16]) 
 pub extern "C" fn board_move(n: u32, columns: &[u16], frame: &[u32], out: &mut [u32]) -> u32
     ensures { λ r. ⌜ Numbers (Moves edition1 n (now (columns .entry)) (now (frame .entry)) (now (out .entry)) (now (out .exit))) r ⌝ }
 {
-    let answer = order::move_frame(n, columns, frame, out);
+    let answer = mover::move_frame(n, columns, frame, out);
     number_of(answer)
 }
 

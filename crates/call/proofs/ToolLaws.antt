@@ -3,9 +3,7 @@
 --   comes-checked     so is one that a check gives, which goes by the reasons before 11 to 14
 --   comes-done        how an answer is where the table gives none
 --   comes-past        where neither of two tables gives a reason before 11 to 14, the same comes of a call by either
---   SoundCall e n k st l      neither sizes, lengths nor state are wrong
---   call-sound        none of 1, 2 and 10 applies exactly when that is so
---   serving-refuses, serving-does      where that is so, what serving the cells that a call writes and reads answers and leaves is what comes of the call
+--   serving-refuses, serving-does      where neither sizes, lengths nor state are wrong, what serving the cells that a call writes and reads answers and leaves is what comes of the call
 --   comes-unique      a call has one answer, and leaves one memory and one out buffer
 --   calls-checked     how a refusal of 1, 2 or 10, that a check gives, meets the tool's promise
 --   calls-past        how an answer does where none of them applies
@@ -15,37 +13,34 @@ use Prim.Native.Nat.{ℕ, zero, suc, _^_, _≤_}
 use mathlib.Core.Path.{_≡_, refl, sym, ap, _∙_}
 use mathlib.Core.Bool.{Bool, false}
 use mathlib.Core.List.{List, _++_}
-use mathlib.Core.Logic.{_↔_}
 use mathlib.Core.Option.{Option, none, some}
 use native.Mathlib.Omega.{arith}
 use lib.ListN.{length}
 use lib.Pow.{pow-mono}
 use Rattle.kinds.specs.Answers.{overFront}
-use Rattle.kinds.specs.Edition.{Edition, edition1, Sized}
-use Rattle.kinds.specs.Decisions.{sized?, rightLengths?}
+use Rattle.kinds.specs.Edition.{Edition, edition1}
 use Rattle.kinds.specs.Frame.{ticks}
 use Rattle.kinds.specs.First.{Reason, firstOf}
 use Rattle.kinds.specs.Refusal.{said}
-use Rattle.kinds.specs.Lengths.{RightLengths}
 use Rattle.kinds.specs.declared.Answer.{Answer}
 use Rattle.kinds.specs.declared.Answer.the-variants as Answer
 use Rattle.kinds.specs.declared.Refusal.{Refusal}
-use Rattle.kinds.proofs.TruthLaws.{stable}
 use Rattle.kinds.proofs.FirstLaws.{none-some, first-before, first-skip, first-append, first-none}
 use Rattle.sheet.specs.Sheet.{Side}
 use Rattle.switches.specs.Cells.{cellOf}
 use Rattle.maps.specs.Opened.{Shows}
 use Rattle.maps.specs.declared.OpenSide.{OpenSide}
-use Rattle.state.specs.States.{Possible, reading, next}
-use Rattle.state.specs.Decisions.{possible?}
+use Rattle.state.specs.States.{reading, next}
 use Rattle.state.specs.declared.State.{State}
 use Rattle.faults.specs.Table.{faults}
 use Rattle.memory.specs.Memory.{Memory, Access, wordsAt, served}
 use Rattle.memory.specs.Serving.{serveTable, Serves}
 use Rattle.call.specs.Call.{readsOf, writesOf, accessOf, Outcome, call}
-use Rattle.call.specs.Tool.{Lent, After, Lengths, lengthsOf, runLengths, callTable, refusalOfRun, stateAfter, handedOut, ComesOf, Calls}
+use Rattle.lent.specs.Lent.{Lent, Lengths, lengthsOf, runLengths, callTable}
+use Rattle.call.specs.Tool.{After, refusalOfRun, stateAfter, handedOut, ComesOf, Calls}
 use Rattle.call.specs.declared.RunAnswer.{RunAnswer}
 use Rattle.call.specs.declared.RunAnswer.the-variants.{Done, Refused}
+use Rattle.lent.proofs.LentLaws.{SoundCall, call-sound}
 use Rattle.call.proofs.PlaceLaws.{came-few, reads-few, writes-length}
 use Rattle.call.proofs.CallLaws.{call-given, call-refused, call-done, call-past}
 
@@ -118,20 +113,6 @@ module _ (e : Edition) (n k : ℕ) (w r : OpenSide) (b : Lent) where
 
     pub before-unique : {z : Refusal} → firstOf table ≡ some z → l ≡ q
     before-unique applies = comes-unique (x .before _ applies) (y .before _ applies)
-
-module _ (e : Edition) (n k : ℕ) (st : State) (l : Lengths) where
-  pub record SoundCall : Type 0 where
-    pub sized : Sized e n k
-    pub right : RightLengths (runLengths n k l)
-    pub possible : Possible (ticks n k) st
-
-  pub call-sound : firstOf (callTable e n k st l) ≡ none ↔ SoundCall
-  call-sound = (
-    λ given.
-        let (sizes, (lent, (state, _))) = first-none (callTable e n k st l) .0 given in
-        record { sized = stable (sized? e n k) sizes; right = stable (rightLengths? (runLengths n k l)) lent; possible = stable (possible? (ticks n k) st) state },
-    λ ok. first-none (callTable e n k st l) .1 (λ outside. outside (ok .sized), (λ wrong. wrong (ok .right), (λ not. not (ok .possible), tt))),
-  )
 
 module _ (n k : ℕ) (f g : ℕ → ℕ) (b : Lent) (ok : SoundCall edition1 n k (b .state) (lengthsOf b)) where
   abbrev before : List Reason

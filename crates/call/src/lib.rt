@@ -3,12 +3,8 @@ ghost use mathlib.Core.Path.{_≡_};
 ghost use mathlib.Core.Bool.{cond};
 ghost use Prim.Native.Nat.{_^_, _≤_};
 ghost use lib.ListN.{length};
-ghost use Rattle.kinds.specs.Answers.{Says};
 ghost use Rattle.kinds.specs.Edition.{edition1};
-ghost use Rattle.kinds.specs.First.{firstOf};
-ghost use Rattle.kinds.specs.Lengths.{RightLengths};
-ghost use Rattle.kinds.specs.Refusal.{said};
-ghost use Rattle.call.specs.Tool.{runLengths, callTable, Calls};
+ghost use Rattle.call.specs.Tool.{Calls};
 ghost use Rattle.call.specs.Inside.{mostPorts, ListsPlaces};
 use kinds::Answer;
 use kinds::Refusal;
@@ -41,7 +37,7 @@ pub fn call(
         (record { state = state; came = now (came .entry); memory = record { words = now (words .entry); marks = now (marks .entry) }; out = now (out .entry) })
         (record { answer = r; memory = record { words = now (words .exit); marks = now (marks .exit) }; out = now (out .exit) }) ⌝ }
 {
-    let checked = check(n, k, state, came.len(), out.len(), words.len(), marks.len());
+    let checked = lent::check(n, k, state, came.len(), out.len(), words.len(), marks.len());
     if let Answer::Refused(refusal) = checked {
         return RunAnswer::Refused(refusal);
     }
@@ -70,51 +66,6 @@ pub fn call(
         return RunAnswer::Refused(refusal);
     }
     RunAnswer::Done(state.next(ticks, came), reading)
-}
-
-fn check(
-    n: u32,
-    k: u32,
-    state: State,
-    came: usize,
-    out: usize,
-    words: usize,
-    marks: usize,
-) -> Answer
-    ensures { λ r. ⌜ said r ≡ firstOf (callTable edition1 n k state (record { came = came; out = out; words = words; marks = marks })) ⌝ }
-{
-    if !kinds::sized(n, k) {
-        return Answer::Refused(Refusal::Sizes);
-    }
-    if !lengths_fit(n, k, came, out, words, marks) {
-        return Answer::Refused(Refusal::Length);
-    }
-    if !state.possible(bits::two_to(n - k)) {
-        return Answer::Refused(Refusal::State);
-    }
-    Answer::Done
-}
-
-// Whether the lengths that a call is lent are right. No length is 2^(n + 1) for n beyond 63, and up to there n + 1 fits.
-pub fn lengths_fit(n: u32, k: u32, came: usize, out: usize, words: usize, marks: usize) -> bool
-    ensures { λ r. ⌜ Says r (RightLengths (runLengths n k (record { came = came; out = out; words = words; marks = marks }))) ⌝ }
-{
-    if 63 < n {
-        return false;
-    }
-    if !bits::is_two_to(words, n + 1) {
-        return false;
-    }
-    if !bits::is_two_to(marks, n + 1) {
-        return false;
-    }
-    if !bits::is_two_to(out, k) {
-        return false;
-    }
-    if came == 0 {
-        return true;
-    }
-    bits::is_two_to(came, k)
 }
 
 fn words_leaving(reading: bool, ports: usize) -> usize

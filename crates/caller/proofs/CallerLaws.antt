@@ -29,7 +29,8 @@ use Rattle.switches.specs.Cells.{M, N}
 use Rattle.state.specs.declared.State.{State}
 use Rattle.memory.specs.Memory.{Memory, filledMarks}
 use Rattle.call.specs.Call.{Outcome}
-use Rattle.call.specs.Tool.{Lent, After, stateAfter, handedOut, ComesOf}
+use Rattle.lent.specs.Lent.{Lent}
+use Rattle.call.specs.Tool.{After, stateAfter, handedOut, ComesOf}
 use Rattle.call.specs.declared.RunAnswer.{RunAnswer}
 use Rattle.call.specs.declared.RunAnswer.the-variants.{Done, Refused}
 use Rattle.call.proofs.CallLaws.{call-refused, call-leaving, call-idle}

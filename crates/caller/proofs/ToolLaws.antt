@@ -31,7 +31,7 @@ use Rattle.switches.specs.Cells.{M, N}
 use Rattle.state.specs.States.{Possible}
 use Rattle.memory.specs.Memory.{filledMarks}
 use Rattle.call.specs.Call.{Outcome}
-use Rattle.call.specs.Tool.{Lent}
+use Rattle.lent.specs.Lent.{Lent}
 use Rattle.call.proofs.CallLaws.{call-refused, call-past}
 use Rattle.run.specs.Tool.{beforeFaults}
 use Rattle.run.proofs.ToolLaws.{sheet-call-possible, sheet-call-filled}

@@ -8,7 +8,8 @@ use mathlib.Core.Bool.{cond}
 use mathlib.Core.List.{List, []}
 use lib.ListN.{length}
 use Rattle.kinds.specs.Edition.{Edition}
-use Rattle.call.specs.Tool.{Lent, After, refusalOfRun, stateAfter, handedOut}
+use Rattle.lent.specs.Lent.{Lent}
+use Rattle.call.specs.Tool.{After, refusalOfRun, stateAfter, handedOut}
 use Rattle.run.specs.Tool.{Runs}
 use Rattle.promise.specs.Series.{callAt}
 use Rattle.promise.specs.Seen.{Seen}

@@ -1,7 +1,7 @@
 -- The meanings on cases of 01. At every n of the sizes bit reversal is undone by itself; from n 3 on Gray code is not: the last column comes back as
 -- 2^(n-1) + 2^(n-3), where it should be 2^(n-1). At n 3 it is undone by 1 3 7.
--- Columns 4 4 at n 2 give 3, columns 1 1 give 4; n 0, n 11 and n 4294967295 give 1, and so do k 0, k 6 and n 2 with k 3; a column too few, and an output or a
--- frame too short, give 2, whatever the columns are.
+-- Columns 4 4 at n 2 give 3, columns 1 1 give 4; n 0, n 11 and n 4294967295 give 1, and so do k 0, k 6 and n 2 with k 3; a column too few, and an output too short,
+-- give 2, whatever the columns are.
 use mathlib.Core.Path.{_≡_, refl}
 use mathlib.Core.List.{List, [], _∷_, map}
 use Prim.Native.Nat.{ℕ, _+_, _-_, _/_, _^_}
@@ -16,7 +16,7 @@ use Rattle.bits.specs.Image.{image, columns}
 use Rattle.kinds.specs.Decided.{someBelow}
 use Rattle.span.specs.Decisions.{independent?}
 use Rattle.order.specs.Order.{place}
-use Rattle.order.specs.Table.{columnTable, orderTable, inverseTable, moverTable}
+use Rattle.order.specs.Table.{columnTable, orderTable, inverseTable}
 
 abbrev reversal : ℕ → List ℕ
 reversal n = columns n (λ u. 2 ^ (n - 1) / u)
@@ -59,12 +59,6 @@ refused : map (λ (n, C, out). given (firstOf (inverseTable edition1 n C out))) 
     ) ≡ 3 ∷ 4 ∷ 0 ∷ 2 ∷ 2 ∷ 1 ∷ 1 ∷ 1 ∷ []
 unfolding image firstOf sizedN? decLe rightLengths? ℕ-discrete someBelow independent?
 refused = refl
-
-refused-frames : map (λ (C, frame, out). given (firstOf (moverTable edition1 1 C frame out))) (
-    (1 ∷ [], 7 ∷ 8 ∷ [], 0 ∷ 0 ∷ []) ∷ (2 ∷ [], 7 ∷ [], 0 ∷ 0 ∷ []) ∷ (0 ∷ [], 7 ∷ 8 ∷ [], 0 ∷ []) ∷ []
-    ) ≡ 0 ∷ 2 ∷ 2 ∷ []
-unfolding image firstOf sizedN? decLe rightLengths? ℕ-discrete someBelow independent?
-refused-frames = refl
 
 refused-with-k : map (λ (n, k). given (firstOf (orderTable (Sized edition1 n k) (sized? edition1 n k) n [] []))) (
     (10, 5) ∷ (10, 6) ∷ (10, 0) ∷ (2, 3) ∷ (11, 5) ∷ []

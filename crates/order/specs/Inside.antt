@@ -3,13 +3,11 @@
 --   ChecksColumns n C fits r   r is the lowest of 2 to 4 that applies, fits as in `Checks`; if none does, the scan holds C
 --   ChecksAndScans n C fits r  the same of 1 to 4, for a tool that takes no k
 --   UndoesHeld scan m m'       whatever order the scan holds, of as many columns as m has, m' undoes it
---   Steps C s                  s[j] is the sum of columns 0 to j: what the place changes by, from a number to the next, where the next ends in j zeros
---   TwoFrames n C f g          an order, and two frames
-use Prim.Native.Nat.{ℕ, _+_, _-_, _^_, _<_, _≤_}
+use Prim.Native.Nat.{ℕ, _≤_}
 use mathlib.Core.Path.{_≡_}
 use mathlib.Core.Bool.{Bool}
 use mathlib.Core.List.{List, [], _∷_}
-use lib.ListN.{length, getD}
+use lib.ListN.{length}
 use Rattle.kinds.specs.Edition.{edition1, SizedN}
 use Rattle.kinds.specs.Decisions.{sizedN?}
 use Rattle.kinds.specs.Answers.{Checks}
@@ -17,7 +15,7 @@ use Rattle.kinds.specs.declared.Answer.the-variants.{Done}
 use Rattle.span.specs.Held.{Holds}
 use Rattle.span.specs.Tools.{mostScanned}
 use Rattle.span.specs.declared.Scan.{Scan}
-use Rattle.order.specs.Order.{place, Order, Undoes}
+use Rattle.order.specs.Order.{Order, Undoes}
 use Rattle.order.specs.Table.{columnTable, orderTable}
 use Rattle.order.specs.declared.Checked.{Checked}
 
@@ -34,12 +32,3 @@ pub record ChecksAndScans (n : ℕ) (C : List ℕ) (fits : Bool) (r : Checked) :
 
 abbrev pub UndoesHeld : Scan → List ℕ → List ℕ → Type 0
 UndoesHeld scan m m' = (C : List ℕ) → Holds scan C → Order (length m) C → Undoes (length m) C m'
-
-abbrev pub Steps : List ℕ → List ℕ → Type 0
-Steps C s = (j : ℕ) → j < length C → getD s j 0 ≡ place C (2 ^ (j + 1) - 1)
-
-pub record TwoFrames (n : ℕ) (C f g : List ℕ) : Type 0 where
-  pub few : Few C
-  pub order : Order n C
-  pub came : length f ≡ 2 ^ n
-  pub leaves : length g ≡ 2 ^ n

@@ -3,9 +3,9 @@
 --   dependent C               4: columns dependent
 --   columnTable n Cs beside   2 to 4 of the lists of columns Cs, 2 for any of them, then 3 for any, then 4 for any, where the lengths lent beside them, and what they should be, are beside
 --   orderTable S d n C beside   1 to 4 of the one list C, where S says that the sizes are right, and d decides it
---   inverseLengths n out, moverLengths n frame out          the lengths lent to the inverse and to the mover beside the columns
---   inverseTable e n C out, moverTable e n C frame out      their tables: they take no k
-use Prim.Native.Nat.{ℕ, _^_}
+--   inverseLengths n out      the length lent to the inverse beside the columns
+--   inverseTable e n C out    its table: it takes no k
+use Prim.Native.Nat.{ℕ}
 use mathlib.Core.List.{List, [], _∷_, _++_, map}
 use lib.ListN.{length}
 use Rattle.kinds.specs.Edition.{Edition, SizedN}
@@ -34,11 +34,5 @@ orderTable S d n C beside = outside S d ∷ columnTable n (C ∷ []) beside
 abbrev pub inverseLengths : ℕ → List ℕ → List (ℕ × Wanted)
 inverseLengths n out = (length out, exactly n) ∷ []
 
-abbrev pub moverLengths : ℕ → List ℕ → List ℕ → List (ℕ × Wanted)
-moverLengths n frame out = (length frame, exactly (2 ^ n)) ∷ (length out, exactly (2 ^ n)) ∷ []
-
 abbrev pub inverseTable : Edition → ℕ → List ℕ → List ℕ → List Reason
 inverseTable e n C out = orderTable (SizedN e n) (sizedN? e n) n C (inverseLengths n out)
-
-abbrev pub moverTable : Edition → ℕ → List ℕ → List ℕ → List ℕ → List Reason
-moverTable e n C frame out = orderTable (SizedN e n) (sizedN? e n) n C (moverLengths n frame out)

@@ -19,8 +19,8 @@ use Rattle.sheet.specs.Table.{sheetLengths, sheetTable}
 use Rattle.sheet.proofs.TableLaws.{sheet-sound}
 use Rattle.state.specs.Decisions.{possible?}
 use Rattle.state.specs.declared.State.{State}
-use Rattle.call.specs.Tool.{Lent, Lengths, lengthsOf, runLengths, callTable}
-use Rattle.call.proofs.ToolLaws.{call-sound}
+use Rattle.lent.specs.Lent.{Lent, Lengths, lengthsOf, runLengths, callTable}
+use Rattle.lent.proofs.LentLaws.{call-sound}
 use Rattle.run.specs.Tool.{checkTable}
 use Rattle.run.specs.Sound.{runTable, Sound}
 

@@ -26,7 +26,8 @@ use Rattle.state.specs.States.{Possible}
 use Rattle.state.specs.declared.State.{State}
 use Rattle.memory.specs.Memory.{filledMarks}
 use Rattle.call.specs.Call.{Outcome}
-use Rattle.call.specs.Tool.{Lent, After, Lengths, handedOut}
+use Rattle.lent.specs.Lent.{Lent, Lengths}
+use Rattle.call.specs.Tool.{After, handedOut}
 use Rattle.call.proofs.CallLaws.{call-given, call-idle, call-possible, call-filled}
 use Rattle.call.proofs.ToolLaws.{comes-unique}
 use Rattle.run.specs.Tool.{ChecksRun, beforeFaults, sheetCall, Runs}

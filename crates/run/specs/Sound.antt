@@ -16,7 +16,7 @@ use Rattle.state.specs.States.{Possible}
 use Rattle.faults.specs.Faults.{Clash, SomeFilled, SomeEmpty}
 use Rattle.faults.specs.Table.{faults}
 use Rattle.call.specs.Call.{readsOf, writesOf}
-use Rattle.call.specs.Tool.{Lent, lengthsOf, runLengths}
+use Rattle.lent.specs.Lent.{Lent, lengthsOf, runLengths}
 use Rattle.run.specs.Tool.{beforeFaults}
 
 module _ (e : Edition) (n k : ℕ) (s : List ℕ) (b : Lent) where

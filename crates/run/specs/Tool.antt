@@ -21,7 +21,8 @@ use Rattle.maps.specs.declared.Opened.{Opened}
 use Rattle.state.specs.Table.{impossible}
 use Rattle.state.specs.declared.State.{State}
 use Rattle.call.specs.Call.{Outcome, call}
-use Rattle.call.specs.Tool.{Lent, After, Lengths, lengthsOf, runLengths, ComesOf}
+use Rattle.lent.specs.Lent.{Lent, Lengths, lengthsOf, runLengths}
+use Rattle.call.specs.Tool.{After, ComesOf}
 
 abbrev pub checkTable : Edition → ℕ → ℕ → List ℕ → State → Lengths → List Reason
 checkTable e n k s st l = sheetTable e n k s (runLengths n k l) ++ impossible (ticks n k) st ∷ []

@@ -62,7 +62,7 @@ pub fn check(
 ) -> Opened
     ensures { λ r. ⌜ ChecksRun edition1 n k (now (sheet .entry)) state (record { came = came; out = out; words = words; marks = marks }) r ⌝ }
 {
-    let fits = call::lengths_fit(n, k, came, out, words, marks);
+    let fits = lent::lengths_fit(n, k, came, out, words, marks);
     let sides = maps::open(n, k, sheet, fits);
     let answer = sides.answer;
     let opened = kinds::is_done(answer);

@@ -17,7 +17,8 @@ use Rattle.kinds.proofs.FrameLaws.{tick-lt, port-lt, word-lt, in-order-length, 
 use Rattle.memory.specs.Memory.{Memory}
 use Rattle.kinds.specs.Answers.{overFront}
 use Rattle.state.specs.declared.State.{State}
-use Rattle.call.specs.Tool.{Lent, After, stateAfter, ComesOf}
+use Rattle.lent.specs.Lent.{Lent}
+use Rattle.call.specs.Tool.{After, stateAfter, ComesOf}
 use Rattle.call.specs.declared.RunAnswer.{RunAnswer}
 use Rattle.run.specs.Tool.{Runs}
 use Rattle.promise.specs.Series.{callAt, Series, wordIn, frame, wordsOfTick}

@@ -25,10 +25,11 @@ use Rattle.state.specs.Decisions.{possible?}
 use Rattle.state.specs.declared.State.{State}
 use Rattle.memory.specs.Serving.{Serves}
 use Rattle.call.specs.Call.{readsOf, writesOf, accessOf}
-use Rattle.call.specs.Tool.{Lent, lengthsOf, callTable}
+use Rattle.lent.specs.Lent.{Lent, lengthsOf, callTable}
 use Rattle.call.specs.Inside.{mostPorts}
 use Rattle.call.proofs.PlaceLaws.{came-few, reads-length, reads-few, are-places, are-writes, are-reads}
-use Rattle.call.proofs.ToolLaws.{calls-checked, calls-past, SoundCall, call-sound, serving-refuses, serving-does}
+use Rattle.lent.proofs.LentLaws.{SoundCall, call-sound}
+use Rattle.call.proofs.ToolLaws.{calls-checked, calls-past, serving-refuses, serving-does}
 use Rattle.call.proofs.call.Statement.{statement}
 use Rattle.call.proofs.call.Tie as tie
 

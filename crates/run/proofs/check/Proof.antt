@@ -25,7 +25,7 @@ use Rattle.maps.specs.declared.Opened.{Opened}
 use Rattle.state.specs.States.{Possible}
 use Rattle.state.specs.Table.{impossible}
 use Rattle.state.specs.declared.State.{State}
-use Rattle.call.specs.Tool.{Lengths, runLengths}
+use Rattle.lent.specs.Lent.{Lengths, runLengths}
 use Rattle.run.specs.Tool.{ChecksRun}
 use Rattle.run.proofs.check.Statement.{statement}
 use Rattle.run.proofs.check.Tie as tie

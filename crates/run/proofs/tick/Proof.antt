@@ -11,7 +11,8 @@ use Rattle.kinds.specs.declared.Answer.the-variants as Answer
 use Rattle.sheet.specs.Sheet.{writeSide, readSide}
 use Rattle.switches.specs.Cells.{M, N}
 use Rattle.maps.specs.declared.Opened.{Opened}
-use Rattle.call.specs.Tool.{Lent, lengthsOf, Calls}
+use Rattle.lent.specs.Lent.{Lent, lengthsOf}
+use Rattle.call.specs.Tool.{Calls}
 use Rattle.call.specs.declared.RunAnswer.{RunAnswer}
 use Rattle.call.proofs.ToolLaws.{comes-past, comes-checked}
 use Rattle.run.specs.Tool.{beforeFaults, ChecksRun, Runs}

@@ -1,4 +1,4 @@
--- `call::check` meets its contract. It goes down the table of 1, 2 and 10.
+-- `lent::check` meets its contract. It goes down the table of 1, 2 and 10.
 use Prim.Native.Nat.{ℕ}
 use mathlib.Core.Path.{_≡_, sym, _∙_}
 use mathlib.Core.List.{List}
@@ -11,9 +11,9 @@ use Rattle.kinds.specs.Frame.{ticks}
 use Rattle.kinds.specs.First.{Reason, firstOf}
 use Rattle.kinds.proofs.TruthLaws.{denied}
 use Rattle.kinds.proofs.FirstLaws.{first-nil, first-take, first-skip}
-use Rattle.call.specs.Tool.{callTable}
-use Rattle.call.proofs.check.Statement.{statement}
-use Rattle.call.proofs.check.Tie as tie
+use Rattle.lent.specs.Lent.{callTable}
+use Rattle.lent.proofs.check.Statement.{statement}
+use Rattle.lent.proofs.check.Tie as tie
 
 module _ (c : tie.Start) where
   abbrev n : ℕ

@@ -1,4 +1,4 @@
--- `order::move_frame` meets its contract. Past the check the columns are an order, and both buffers are frames.
+-- `mover::move_frame` meets its contract. Past the check the columns are an order, and both buffers are frames.
 use Prim.Native.Nat.{ℕ}
 use mathlib.Core.Path.{_≡_, refl, sym, ap, _∙_}
 use mathlib.Core.Bool.{true}
@@ -15,12 +15,12 @@ use Rattle.kinds.specs.Lengths.{RightLengths}
 use Rattle.kinds.specs.declared.Answer.the-variants.{Done}
 use Rattle.kinds.proofs.TruthLaws.{denied}
 use Rattle.kinds.proofs.AnswerLaws.{refuses, does}
 use Rattle.order.specs.Order.{Order}
-use Rattle.order.specs.Table.{moverLengths, moverTable}
-use Rattle.order.specs.Inside.{TwoFrames}
+use Rattle.mover.specs.Tool.{moverLengths, moverTable}
+use Rattle.mover.specs.Inside.{TwoFrames}
 use Rattle.order.proofs.TableLaws.{order-sound}
-use Rattle.order.proofs.move_frame.Statement.{statement}
-use Rattle.order.proofs.move_frame.Tie as tie
+use Rattle.mover.proofs.move_frame.Statement.{statement}
+use Rattle.mover.proofs.move_frame.Tie as tie
 
 are-frames-requires : tie.Need-are-frames-requires
 are-frames-requires c κs = search needs

@@ -1,4 +1,4 @@
--- `order::steps_of` meets its contract. The invariant: the sum is that of the first j columns, which are those at the bits of 2^j - 1, and the steps before j stand.
+-- `mover::steps_of` meets its contract. The invariant: the sum is that of the first j columns, which are those at the bits of 2^j - 1, and the steps before j stand.
 use Prim.Native.Nat.{ℕ, _+_, _-_, _^_, _<_}
 use mathlib.Core.Path.{_≡_, sym, _∙_}
 use mathlib.Core.List.{List}
@@ -10,9 +10,9 @@ use lib.ListN.{length, getD, set, length-set}
 use lib.Seq.{getD-set-same, getD-set-other}
 use Rattle.bits.proofs.ImageLaws.{image-zero, image-xor, image-unit}
 use Rattle.bits.proofs.NextLaws.{ones-more}
 use Rattle.order.specs.Order.{place}
-use Rattle.order.proofs.steps_of.Statement.{statement}
-use Rattle.order.proofs.steps_of.Tie as tie
+use Rattle.mover.proofs.steps_of.Statement.{statement}
+use Rattle.mover.proofs.steps_of.Tie as tie
 
 record Stepped (C s : List ℕ) (sum j : ℕ) : Type 0 where
   fits : length C < length s

@@ -1,9 +1,9 @@
--- `order::are_frames` meets its contract.
+-- `mover::are_frames` meets its contract.
 use borrow.Author.Needs.{needs}
 use borrow.Author.Tests.{not-true, not-false}
 use Rattle.kinds.proofs.TruthLaws.{says-no, denied}
-use Rattle.order.proofs.are_frames.Statement.{statement}
-use Rattle.order.proofs.are_frames.Tie as tie
+use Rattle.mover.proofs.are_frames.Statement.{statement}
+use Rattle.mover.proofs.are_frames.Tie as tie
 
 is-two-to-requires : tie.Need-is-two-to-requires
 is-two-to-requires c κs = search needs

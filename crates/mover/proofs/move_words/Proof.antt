@@ -1,4 +1,4 @@
--- `order::move_words` meets its contract. The invariant: the place is that of word i, unless none is left, and each word before i stands at its own place.
+-- `mover::move_words` meets its contract. The invariant: the place is that of word i, unless none is left, and each word before i stands at its own place.
 use Prim.Native.Nat.{ℕ, _+_, _-_, _^_, _≤_, _<_}
 use mathlib.Core.Path.{_≡_, sym, _∙_}
 use mathlib.Core.List.{List}
@@ -16,11 +16,11 @@ use Rattle.bits.proofs.XorLaws.{xor-cancel}
 use Rattle.bits.proofs.ImageLaws.{image-zero, image-xor}
 use Rattle.bits.proofs.NextLaws.{trailing-lt, next-xor}
 use Rattle.span.specs.Tools.{mostScanned}
 use Rattle.order.specs.Order.{place, Moved}
-use Rattle.order.specs.Inside.{Steps, TwoFrames}
+use Rattle.mover.specs.Inside.{Steps, TwoFrames}
 use Rattle.order.proofs.OrderLaws.{order-bijection}
-use Rattle.order.proofs.move_words.Statement.{statement}
-use Rattle.order.proofs.move_words.Tie as tie
+use Rattle.mover.proofs.move_words.Statement.{statement}
+use Rattle.mover.proofs.move_words.Tie as tie
 
 abbrev zeros : ℕ → ℕ
 zeros = trailingZeros 64

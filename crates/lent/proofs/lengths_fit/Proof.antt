@@ -1,4 +1,4 @@
--- `call::lengths_fit` meets its contract. No length of 64 bits is 2^65 or more.
+-- `lent::lengths_fit` meets its contract. No length of 64 bits is 2^65 or more.
 use Prim.Native.Nat.{_+_, _^_}
 use mathlib.Core.List.{[], _∷_}
 use mathlib.Core.Logic.{inl, inr, ⊎-elim}
@@ -8,8 +8,8 @@ use native.Mathlib.Omega.{arith}
 use lib.Pow.{pow-mono}
 use Rattle.kinds.specs.Lengths.{exactly, RightLengths}
 use Rattle.kinds.proofs.TruthLaws.{says-no, says-yes, denied}
-use Rattle.call.proofs.lengths_fit.Statement.{statement}
-use Rattle.call.proofs.lengths_fit.Tie as tie
+use Rattle.lent.proofs.lengths_fit.Statement.{statement}
+use Rattle.lent.proofs.lengths_fit.Tie as tie
 
 -- the lengths but that of the tick
 module _ (c : tie.Else4) where

@@ -1,0 +1,2 @@
+-- Laws of what a call is lent.
+pub mod LentLaws

@@ -1,0 +1,3 @@
+-- What the mover promises.
+pub mod Tool
+pub mod Inside

@@ -6,7 +6,7 @@ import sys
 from source import Source, names_in, tokens
 
 # The tools, and what is printed: their promises are what a caller is told. All functions of board and listing are.
-TOOLS = {"order": {"move_frame", "inverse"}, "price": {"price"}, "plan": {"plan"}, "inspect": {"inspect"}, "run": {"tick"}, "list": {"list", "print"}, "board": None, "listing": None}
+TOOLS = {"order": {"inverse"}, "mover": {"move_frame"}, "price": {"price"}, "plan": {"plan"}, "inspect": {"inspect"}, "run": {"tick"}, "list": {"list", "print"}, "board": None, "listing": None}
 DOCUMENT = "docs/READING.md"
 PROMISES = sorted(glob.glob("docs/promises/*.md"))
 
@@ -151,7 +151,7 @@ tools = promised()
 PARTS = [
     # name, roots, what is not walked into, the most lines
     ("demand 1", tools, {IS_PLANNED, RIGHT}, None),
-    ("demand 2", {root("order", "Moves"), root("order", "Inverts"), PLANS}, {RIGHT}, None),
+    ("demand 2", {root("mover", "Moves"), root("order", "Inverts"), PLANS}, {RIGHT}, None),
     ("demand 3", {THIRD}, {INSPECTS, PLANS}, 250),
     ("all", tools | {THIRD} | cited(), set(), 900),
 ]

@@ -352,18 +352,6 @@ impl Comparison {
         (board, text.content().to_vec(), length.content().to_vec())
     }
 
-    /// Counts what another comparison counted.
-    pub fn add(&mut self, part: Comparison) {
-        let mine = self.counts.iter_mut().flatten();
-        for (count, more) in mine.zip(part.counts.iter().flatten()) {
-            *count += more;
-        }
-        self.agreed += part.agreed;
-        self.differed += part.differed;
-        self.facts_broken += part.facts_broken;
-        self.differences.extend(part.differences);
-    }
-
     /// Prints the table, the first differences and the last line; true if nothing failed.
     pub fn report(&self) -> bool {
         let mut failed = self.differed + self.facts_broken;

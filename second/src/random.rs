@@ -36,15 +36,25 @@ impl Random {
     }
 
     pub fn words(&mut self, length: usize) -> Vec<u32> {
-        (0..length).map(|_| self.any() as u32).collect()
+        self.cut(length, |any| [any as u32, (any >> 32) as u32])
     }
 
     pub fn halfwords(&mut self, length: usize) -> Vec<u16> {
-        (0..length).map(|_| self.any() as u16).collect()
+        self.cut(length, |any| [0, 16, 32, 48].map(|bit| (any >> bit) as u16))
     }
 
     pub fn bytes(&mut self, length: usize) -> Vec<u8> {
-        (0..length).map(|_| self.any() as u8).collect()
+        self.cut(length, u64::to_le_bytes)
+    }
+
+    /// `length` numbers, several from each draw.
+    fn cut<T: Clone, const N: usize>(&mut self, length: usize, parts: fn(u64) -> [T; N]) -> Vec<T> {
+        let mut all = Vec::with_capacity(length + N);
+        while all.len() < length {
+            all.extend_from_slice(&parts(self.any()));
+        }
+        all.truncate(length);
+        all
     }
 
     pub fn shuffle<T>(&mut self, items: &mut [T]) {

@@ -9,7 +9,7 @@
 --   calls-past        how an answer does where none of them applies
 --   calls-unique      for sides that are shown the tool has one answer
 --   before-unique     and so it has where 1, 2 or 10 applies, whatever the sides are
-use Prim.Native.Nat.{ℕ, zero, suc, _^_, _≤_}
+use Prim.Native.Nat.{ℕ}
 use mathlib.Core.Path.{_≡_, refl, sym, ap, _∙_}
 use mathlib.Core.Bool.{Bool, false}
 use mathlib.Core.List.{List, _++_}
@@ -36,7 +36,7 @@ use Rattle.faults.specs.Table.{faults}
 use Rattle.memory.specs.Memory.{Memory, Access, wordsAt, served}
 use Rattle.memory.specs.Serving.{serveTable, Serves}
 use Rattle.call.specs.Call.{readsOf, writesOf, accessOf, Outcome, call}
-use Rattle.lent.specs.Lent.{Lent, Lengths, lengthsOf, runLengths, callTable}
+use Rattle.lent.specs.Lent.{Lent, lengthsOf, callTable}
 use Rattle.call.specs.Tool.{After, refusalOfRun, stateAfter, handedOut, ComesOf, Calls}
 use Rattle.call.specs.declared.RunAnswer.{RunAnswer}
 use Rattle.call.specs.declared.RunAnswer.the-variants.{Done, Refused}

@@ -22,7 +22,7 @@ use Rattle.kinds.specs.Search.{found}
 use Rattle.kinds.specs.declared.Port.{Port}
 use Rattle.kinds.proofs.TruthLaws.{holds-yes}
 use Rattle.kinds.proofs.SearchLaws.{found-has, found-first, found-least}
-use Rattle.faults.specs.Faults.{WantOneBank, LowestPair, Clash, mostCells}
+use Rattle.faults.specs.Faults.{LowestPair, Clash, mostCells}
 use Rattle.faults.specs.Decisions.{wantOneBank?, laterWants?, clash?}
 use Rattle.faults.specs.Table.{firstPort, secondPort, pairFrom, firstPair, portsOf}
 use Rattle.faults.specs.declared.Pair.the-variants.{Nowhere, Between}

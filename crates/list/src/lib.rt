@@ -1,7 +1,7 @@
 // The text of a listing (01, 'The order card').
 ghost use mathlib.Core.Path.{_≡_};
 ghost use mathlib.Core.List.{[], _∷_};
-ghost use Prim.Native.Nat.{_≤_, min};
+ghost use Prim.Native.Nat.{_≤_};
 ghost use lib.ListN.{length};
 ghost use Rattle.kinds.specs.Answers.{Says};
 ghost use Rattle.kinds.specs.Edition.{edition1};

@@ -1,6 +1,6 @@
 -- A frame of two words is moved; a frame or a second buffer too short gives 2, whatever the column is.
 use mathlib.Core.Path.{_≡_, refl}
-use mathlib.Core.List.{List, [], _∷_, map}
+use mathlib.Core.List.{[], _∷_, map}
 use native.Mathlib.Decide.{ℕ-discrete, decLe}
 use Rattle.kinds.specs.Edition.{edition1}
 use Rattle.kinds.specs.Decisions.{sizedN?, rightLengths?}

@@ -28,7 +28,7 @@ use Rattle.call.specs.Call.{readsOf, writesOf, accessOf, Outcome, call}
 use Rattle.call.proofs.CallLaws.{call-given, call-done}
 use Rattle.promise.specs.Series.{callAt}
 use Rattle.promise.specs.Seen.{IsFault, Leaves, RightOver}
-use Rattle.promise.specs.Run.{Stand, standing, incoming, outgoing, accessIn, carried}
+use Rattle.promise.specs.Run.{Stand, standing, incoming, outgoing, carried}
 use Rattle.promise.specs.Right.{LeavesBy, RightFrom}
 use Rattle.promise.specs.Answered.{standAfter, seenOf, stands, seenAt, called}
 

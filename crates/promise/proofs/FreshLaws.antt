@@ -13,7 +13,6 @@ use Rattle.kinds.specs.Frame.{tickBits, ticks}
 use Rattle.bits.specs.Image.{AllBelow}
 use Rattle.sheet.specs.Layout.{AllZero}
 use Rattle.state.specs.States.{clockOf, Possible}
-use Rattle.state.specs.declared.Clock.{Clock}
 use Rattle.memory.specs.Memory.{Memory}
 use Rattle.promise.specs.Run.{Stand, Fresh}
 use Rattle.promise.specs.Answered.{freshStand}

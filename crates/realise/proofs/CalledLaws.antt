@@ -2,7 +2,7 @@
 --   called-keeps     so it does
 --   called-right     the run is right
 --   called-hands     and a tick is handed out exactly in the calls in which one is due
-use Prim.Native.Nat.{ℕ, suc, _+_, _^_, _<_, _≤_}
+use Prim.Native.Nat.{ℕ, _+_, _^_, _<_, _≤_}
 use mathlib.Core.Path.{_≡_, sym, ap, _∙_}
 use mathlib.Core.Bool.{true}
 use mathlib.Core.List.{List, [], flatten}

@@ -19,7 +19,6 @@ use Rattle.kinds.specs.Frame.{tickBits, ticks, tickOf, portOf, wordAt, bankOf}
 use Rattle.kinds.specs.First.{EachReason}
 use Rattle.kinds.proofs.FrameLaws.{frame-whole, tick-lt, port-lt}
 use Rattle.kinds.proofs.TruthLaws.{stable}
-use Rattle.kinds.proofs.FirstLaws.{first-none}
 use Rattle.span.specs.Maps.{Injective, Bijection}
 use Rattle.span.proofs.Counting.{apart-injective, injective-onto}
 use Rattle.state.specs.States.{clockOf, next}
@@ -36,14 +35,14 @@ use Rattle.memory.proofs.MemoryLaws.{words-at}
 use Rattle.memory.proofs.CountLaws.{put-in}
 use Rattle.call.specs.Call.{placesOf, readsOf, writesOf, accessOf, Outcome, carriedOut}
 use Rattle.call.proofs.PlaceLaws.{places-at, places-length, places-clash, places-below}
-use Rattle.call.proofs.CallLaws.{call-given, call-done}
+use Rattle.call.proofs.CallLaws.{call-done}
 use Rattle.promise.specs.Series.{callAt, dueCall, duePort, oneFrame}
 use Rattle.promise.specs.Seen.{Leaves}
 use Rattle.promise.specs.Run.{Stand, standing}
 use Rattle.promise.specs.Answered.{freshStand, stands, outcomeAt, seenAt, called}
 use Rattle.realise.proofs.Fits.{BanksApart, FitsOrder}
 use Rattle.promise.proofs.AnsweredLaws.{nothing-wrong}
-use Rattle.realise.proofs.OneFrame.{one-frame-length, came, came-at, some-came, blank-call}
+use Rattle.realise.proofs.OneFrame.{came, came-at, some-came, blank-call}
 
 -- the state before call c of the frame, and before blank call c after it
 abbrev coming : ℕ → ℕ → State

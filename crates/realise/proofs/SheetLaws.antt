@@ -15,7 +15,7 @@ use Rattle.kinds.specs.Answers.{Says}
 use Rattle.kinds.specs.Edition.{Edition}
 use Rattle.kinds.specs.Frame.{ticks}
 use Rattle.kinds.proofs.FrameLaws.{in-order-at}
-use Rattle.order.specs.Order.{place, Order, Moved}
+use Rattle.order.specs.Order.{Order, Moved}
 use Rattle.order.proofs.OrderLaws.{order-bijection}
 use Rattle.sheet.specs.Layout.{WellFormed}
 use Rattle.switches.specs.Cells.{M, N}

@@ -1,5 +1,5 @@
 -- `call::call` meets its contract. Both lists of places are those that the call writes and reads, and the core of the call does the rest.
-use Prim.Native.Nat.{ℕ, zero, suc, _-_, _*_, _^_, _≤_, _<_}
+use Prim.Native.Nat.{ℕ, _-_, _*_, _^_, _≤_, _<_}
 use mathlib.Core.Path.{_≡_, sym, ap, ap₂, _∙_}
 use mathlib.Core.Bool.{false, cond}
 use mathlib.Core.List.{List, _++_}

@@ -1,7 +1,4 @@
 -- Laws of listings, and cases that are computed.
-pub mod TickLaws
-pub mod RoomLaws
-pub mod TrialLaws
 pub mod ListLaws
 pub mod ToolLaws
 pub mod Cases

@@ -28,7 +28,7 @@ use Rattle.bits.proofs.PaddedLaws.{padded-part}
 use Rattle.card.specs.Card.{mostColumns, Readable, columnsOn, unreadable, ReadsAs, cardTable}
 use Rattle.lines.specs.Line.{spaced, line}
 use Rattle.lines.specs.Written.{RoomFor, Writes}
-use Rattle.list.specs.Listing.{listing}
+use Rattle.listed.specs.Listing.{listing}
 use Rattle.list.specs.Tool.{listingOf, printed, PrintsAs}
 use Rattle.card.specs.declared.Reading.{Reading}
 

@@ -1,5 +1,5 @@
 -- The listing as a tool.
---   textPlaces                   the places that a text buffer must have at least: enough for every listing
+--   refusalLine x          "a refusal prints one line, as `refused 4`"
 --   listLengths t l        the lengths of the lent text buffer t and of the place l for the length of the text, and what is wanted of them
 -- For every decision d of whether the card b is readable:
 --   listingOf d            the text for the order on the card
@@ -17,15 +17,18 @@ use lib.ListN.{length}
 use Rattle.kinds.specs.Answers.{Answers, overFront}
 use Rattle.kinds.specs.Edition.{Edition}
 use Rattle.kinds.specs.First.{firstOf}
-use Rattle.kinds.specs.Refusal.{said}
+use Rattle.kinds.specs.Refusal.{numberOf, said}
 use Rattle.kinds.specs.declared.Answer.{Answer}
 use Rattle.kinds.specs.declared.Refusal.{Refusal}
 use Rattle.kinds.specs.Lengths.{Wanted, exactly, atLeast}
+use Rattle.text.specs.Decimal.{codes}
 use Rattle.card.specs.Card.{Readable, nOn, kOn, columnsOn, cardTable}
-use Rattle.list.specs.Listing.{listing, refusalLine}
+use Rattle.lines.specs.Line.{line}
+use Rattle.listed.specs.Listing.{listing}
+use Rattle.listed.specs.Tool.{textPlaces}
 
-abbrev pub textPlaces : ℕ
-textPlaces = 8192
+abbrev pub refusalLine : Refusal → List ℕ
+refusalLine x = line (codes "refused") (numberOf x ∷ [])
 
 abbrev pub listLengths : List ℕ → List ℕ → List (ℕ × Wanted)
 listLengths t l = (length t, atLeast textPlaces) ∷ (length l, exactly 1) ∷ []

@@ -19,12 +19,14 @@ use Rattle.order.proofs.TableLaws.{order-sound}
 use Rattle.kinds.specs.Answers.{overFront}
 use Rattle.bits.proofs.PaddedLaws.{padded-length}
 use Rattle.card.specs.Card.{mostColumns, Readable, columnsOn, unreadable, cardTable}
-use Rattle.list.specs.Listing.{listing}
-use Rattle.list.specs.Tool.{textPlaces, listLengths}
+use Rattle.lines.specs.Written.{Writes}
+use Rattle.listed.specs.Listing.{listing}
+use Rattle.listed.specs.Tool.{textPlaces}
+use Rattle.list.specs.Tool.{listLengths}
 use Rattle.card.specs.declared.Reading.{Reading}
 use Rattle.card.proofs.CardLaws.{card?, columns-few}
 use Rattle.list.proofs.ListLaws.{order-on-card, listed-read, writes-onto, one-set}
-use Rattle.list.proofs.RoomLaws.{listing-fits}
+use Rattle.listed.proofs.RoomLaws.{listing-fits}
 use Rattle.list.proofs.list.Statement.{statement}
 use Rattle.list.proofs.list.Tie as tie
 
@@ -107,9 +109,7 @@ returns-2 : tie.Need-returns-2
 returns-2 c d = refuses (denied (c .before .is-done2 .ensures) (not-true _ (c .if2 .taken))) (says (c .before .before) d) (refl, refl)
 
 list-order-requires : tie.Need-list-order-requires
-list-order-requires c κs =
-    let order = sound (c .before .before .before) (c .before .before .is-done2 .ensures .0 (not-false _ (c .before .if2 .left))) in
-    record { sized = order .0; order = order .2; places = omega (arith, order .1 .0) }
+list-order-requires c κs = search needs
 
 -- the text was written
 module _ (c : tie.After-slice-known3) where
@@ -125,8 +125,11 @@ module _ (c : tie.After-slice-known3) where
   lent : RightLengths (lengths made)
   lent = sound made done .1
 
+  writes : Writes text 0 (t (at made)) (c .before .before .list-order .last .1 .1 .1 .0) (c .before .before .list-order .result)
+  writes = c .before .before .list-order .ensures .written (record { sized = sound made done .0; order = sound made done .2; places = lent .0 })
+
 cast-length : tie.Need-cast-length
-cast-length c = omega (arith, c .before .before .list-order .ensures .next, fits (made c) (done c))
+cast-length c = omega (arith, writes c .next, fits (made c) (done c))
 
 slice-write-length : tie.Need-slice-write-length
 slice-write-length c = omega (arith, lent c .1 .0)
@@ -140,11 +143,10 @@ same-length-2 c = search needs
 returns-3 : tie.Need-returns-3
 returns-3 c d =
     let at = at (made c) in
-    let writes = c .before .before .list-order .ensures in
     let same = listed-read (at .read .ensures d) in
-    let end : c .before .before .list-order .result ≡ length (text c) = omega (arith, writes .next) in
+    let end : c .before .before .list-order .result ≡ length (text c) = omega (arith, writes c .next) in
     does (done c) (says (made c) d) (
-      writes-onto writes (omega (arith, fits (made c) (done c), lent c .0)) ∙ ap (λ (w : List ℕ). overFront w (t at)) same,
+      writes-onto (writes c) (omega (arith, fits (made c) (done c), lent c .0)) ∙ ap (λ (w : List ℕ). overFront w (t at)) same,
       one-set (l at) (lent c .1 .0) ∙ ap (λ (x : ℕ). x ∷ []) (end ∙ ap length same),
     )
 

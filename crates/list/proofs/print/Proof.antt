@@ -15,7 +15,8 @@ use Rattle.text.specs.Decimal.{codes}
 use Rattle.kinds.specs.Answers.{overFront}
 use Rattle.card.specs.Card.{Readable, cardTable}
 use Rattle.lines.specs.Line.{line}
-use Rattle.list.specs.Tool.{textPlaces, listLengths, textFor}
+use Rattle.listed.specs.Tool.{textPlaces}
+use Rattle.list.specs.Tool.{listLengths, textFor}
 use Rattle.list.proofs.ListLaws.{lengths-right, refusal-short, prints-by}
 use Rattle.list.proofs.print.Statement.{statement}
 use Rattle.list.proofs.print.Tie as tie

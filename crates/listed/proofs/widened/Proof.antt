@@ -1,4 +1,4 @@
--- `list::widened` meets its contract. The invariant: the first i numbers stand in the array.
+-- `listed::widened` meets its contract. The invariant: the first i numbers stand in the array.
 use Prim.Native.Nat.{_-_}
 use mathlib.Core.Path.{refl}
 use native.Mathlib.Omega.{arith}
@@ -6,8 +6,8 @@ use borrow.Author.Needs.{needs}
 use mir.Facts.{fits-widen}
 use lib.ListN.{length}
 use Rattle.bits.proofs.FillLaws.{Filled, fill-none, fill-more, fill-all}
-use Rattle.list.proofs.widened.Statement.{statement}
-use Rattle.list.proofs.widened.Tie as tie
+use Rattle.listed.proofs.widened.Statement.{statement}
+use Rattle.listed.proofs.widened.Tie as tie
 
 abbrev Inv-loop : tie.InvT-loop
 Inv-loop numbers wide₀ i₀ wide i = Filled 17 numbers wide i

@@ -1,14 +1,11 @@
--- The text of a listing (01, 'The order card').
+-- The text that is listed for an order (01, 'The order card').
 --   stageLine name ss      "stage count, then each direction and control"
 --   tickLine k l c         tick c of the frame l: its number, and its words, by port
 --   listing n k C          what is listed for the order with the columns C: "then each tick out"
---   refusalLine x          "a refusal prints one line, as `refused 4`"
 use Prim.Native.Nat.{ℕ}
 use mathlib.Core.List.{List, [], _∷_, _++_, flatten}
 use lib.ListN.{length}
 use Rattle.kinds.specs.Frame.{ticks, inOrder}
-use Rattle.kinds.specs.Refusal.{numberOf}
-use Rattle.kinds.specs.declared.Refusal.{Refusal}
 use Rattle.text.specs.Decimal.{codes, decimal}
 use Rattle.sheet.specs.Sheet.{Stage, flat}
 use Rattle.promise.specs.Series.{wordsOfTick}
@@ -26,6 +23,3 @@ abbrev pub listing : ℕ → ℕ → List ℕ → List ℕ
 listing n k C =
     line (codes "order") (n ∷ k ∷ []) ++ (stageLine (codes "write") (plannedWrite n k C .stages) ++ (stageLine (codes "read") (plannedRead n k C .stages)
     ++ flatten (inOrder (ticks n k) (tickLine k (wordsAsTheyLeave n C)))))
-
-abbrev pub refusalLine : Refusal → List ℕ
-refusalLine x = line (codes "refused") (numberOf x ∷ [])

@@ -20,8 +20,8 @@ use Rattle.bits.specs.Padded.{paddedTo}
 use Rattle.sheet.proofs.LayLaws.{flat-length}
 use Rattle.promise.specs.Series.{wordsOfTick}
 use Rattle.lines.specs.Line.{lineEnd}
-use Rattle.list.specs.Listing.{tickLine}
-use Rattle.list.specs.Inside.{countedStages}
+use Rattle.listed.specs.Listing.{tickLine}
+use Rattle.listed.specs.Inside.{countedStages}
 
 module _ (k : ℕ) (l : List ℕ) where
   abbrev ticks : ℕ

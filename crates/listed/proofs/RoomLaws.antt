@@ -29,8 +29,8 @@ use Rattle.construction.proofs.PlannedLaws.{write-layable}
 use Rattle.trial.specs.Trial.{wordAtPlace, wordsAsTheyLeave}
 use Rattle.lines.specs.Line.{line}
 use Rattle.lines.proofs.LineLaws.{spaced-length, line-length}
-use Rattle.list.specs.Listing.{stageLine, tickLine, listing}
-use Rattle.list.specs.Tool.{textPlaces}
+use Rattle.listed.specs.Listing.{stageLine, tickLine, listing}
+use Rattle.listed.specs.Tool.{textPlaces}
 
 -- ---- the stages
 

@@ -6,18 +6,15 @@
 --   writeCount s, readCount s     the places of either side of the sheet s from its count on
 --   Tried k s f             a sheet and a frame that can be listed
 --   trialText n k s f       what is listed of the sheet s and the frame f that came out of it
---   Listable n k C x        an order, and a text with room for every listing
 use Prim.Native.Nat.{ℕ, _+_, _-_, _*_, _/_, _^_, _≤_}
 use mathlib.Core.Path.{_≡_}
 use mathlib.Core.List.{List, [], _∷_, _++_, flatten}
 use lib.ListN.{length, getD, take, drop}
-use Rattle.kinds.specs.Edition.{edition1, Sized, sheetPlaces}
+use Rattle.kinds.specs.Edition.{edition1, sheetPlaces}
 use Rattle.kinds.specs.Frame.{inOrder}
 use Rattle.text.specs.Decimal.{codes}
-use Rattle.order.specs.Order.{Order}
 use Rattle.lines.specs.Line.{line}
-use Rattle.list.specs.Listing.{tickLine}
-use Rattle.list.specs.Tool.{textPlaces}
+use Rattle.listed.specs.Listing.{tickLine}
 
 abbrev pub tickLines : ℕ → List ℕ → List ℕ
 tickLines k l = flatten (inOrder (length l / 2 ^ k) (tickLine k l))
@@ -49,8 +46,3 @@ pub record Tried (k : ℕ) (s f : List ℕ) : Type 0 where
 abbrev pub trialText : ℕ → ℕ → List ℕ → List ℕ → List ℕ
 trialText n k s f =
     line (codes "order") (n ∷ k ∷ []) ++ (line (codes "write") (countedStages (writeCount s)) ++ (line (codes "read") (countedStages (readCount s)) ++ tickLines k f))
-
-pub record Listable (n k : ℕ) (C x : List ℕ) : Type 0 where
-  pub sized : Sized edition1 n k
-  pub order : Order n C
-  pub places : textPlaces ≤ length x

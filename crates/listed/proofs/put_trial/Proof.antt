@@ -1,4 +1,4 @@
--- `list::put_trial` meets its contract. There is room for each line after those before it.
+-- `listed::put_trial` meets its contract. There is room for each line after those before it.
 use Prim.Native.Nat.{ℕ, _+_, _≤_}
 use mathlib.Core.List.{List, [], _∷_, _++_}
 use native.Mathlib.Omega.{arith}
@@ -7,10 +7,10 @@ use lib.ListN.{length, length-append}
 use Rattle.text.specs.Decimal.{codes}
 use Rattle.lines.specs.Line.{line}
 use Rattle.lines.specs.Written.{Writes}
-use Rattle.list.specs.Inside.{countedStages, tickLines, writeCount, readCount}
+use Rattle.listed.specs.Inside.{countedStages, tickLines, writeCount, readCount}
 use Rattle.lines.proofs.WriteLaws.{writes-then}
-use Rattle.list.proofs.put_trial.Statement.{statement}
-use Rattle.list.proofs.put_trial.Tie as tie
+use Rattle.listed.proofs.put_trial.Statement.{statement}
+use Rattle.listed.proofs.put_trial.Tie as tie
 
 module _ (c : tie.Start) where
   abbrev orders : List ℕ

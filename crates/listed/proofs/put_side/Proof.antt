@@ -1,4 +1,4 @@
--- `list::put_side` meets its contract. The part that is lent of the array is the count and the stages.
+-- `listed::put_side` meets its contract. The part that is lent of the array is the count and the stages.
 use Prim.Native.Nat.{ℕ, _+_, _-_, _*_}
 use mathlib.Core.Path.{_≡_, ap, _∙_}
 use mathlib.Core.List.{List}
@@ -7,9 +7,9 @@ use borrow.Author.Needs.{needs}
 use lib.ListN.{getD, take, length-take}
 use Rattle.bits.specs.Padded.{paddedTo}
 use Rattle.bits.proofs.PaddedLaws.{padded-part}
-use Rattle.list.specs.Inside.{countedStages, Counted}
-use Rattle.list.proofs.put_side.Statement.{statement}
-use Rattle.list.proofs.put_side.Tie as tie
+use Rattle.listed.specs.Inside.{countedStages, Counted}
+use Rattle.listed.proofs.put_side.Statement.{statement}
+use Rattle.listed.proofs.put_side.Tie as tie
 
 module _ {places : List ℕ} (counts : Counted places) where
   abbrev end : ℕ

@@ -23,9 +23,9 @@ use Rattle.construction.proofs.ChoiceLaws.{read-layable}
 use Rattle.construction.proofs.PlannedLaws.{write-layable}
 use Rattle.trial.specs.Trial.{wordsAsTheyLeave}
 use Rattle.lines.specs.Line.{line}
-use Rattle.list.specs.Listing.{stageLine, tickLine, listing}
-use Rattle.list.specs.Inside.{countedStages, Counted, tickLines, writeCount, readCount, Tried, trialText}
-use Rattle.list.proofs.TickLaws.{counted-stages}
+use Rattle.listed.specs.Listing.{stageLine, tickLine, listing}
+use Rattle.listed.specs.Inside.{countedStages, Counted, tickLines, writeCount, readCount, Tried, trialText}
+use Rattle.listed.proofs.TickLaws.{counted-stages}
 
 module _ {n k : ℕ} {S : Side} (layable : Layable edition1 n k S) where
   abbrev addresses : List ℕ

@@ -1,4 +1,4 @@
--- `list::put_ticks` meets its contract. The invariant: the lines from tick c on are left to write, and this tick's words are those from start to end.
+-- `listed::put_ticks` meets its contract. The invariant: the lines from tick c on are left to write, and this tick's words are those from start to end.
 use Prim.Native.Char.{code}
 use Prim.Native.Nat.{ℕ, suc, _+_, _-_, _*_, _/_, _^_, _≤_, _<_}
 use mathlib.Core.Path.{_≡_, refl, ap}
@@ -12,11 +12,11 @@ use Rattle.text.specs.Decimal.{decimal}
 use Rattle.promise.specs.Series.{wordsOfTick}
 use Rattle.lines.specs.Line.{lineEnd}
 use Rattle.lines.specs.Written.{Writes, Puts}
-use Rattle.list.specs.Inside.{tickLines, Frames}
+use Rattle.listed.specs.Inside.{tickLines, Frames}
 use Rattle.lines.proofs.WriteLaws.{writes-length, Left, left-all, left-more, left-done}
-use Rattle.list.proofs.TickLaws.{ticksFrom, ticks-more, ticks-done, tick-part}
-use Rattle.list.proofs.put_ticks.Statement.{statement}
-use Rattle.list.proofs.put_ticks.Tie as tie
+use Rattle.listed.proofs.TickLaws.{ticksFrom, ticks-more, ticks-done, tick-part}
+use Rattle.listed.proofs.put_ticks.Statement.{statement}
+use Rattle.listed.proofs.put_ticks.Tie as tie
 
 record Writing (k : ℕ) (l : List ℕ) (at : ℕ) (text₀ text : List ℕ) (ports place c start end : ℕ) : Type 0 where
   frames : Frames k l

@@ -1,13 +1,14 @@
 // The mover: a whole frame put in order in a second buffer.
 ghost use mathlib.Core.List.{[], _∷_};
-ghost use Prim.Native.Nat.{_^_};
+ghost use Prim.Native.Nat.{_^_, _≤_};
 ghost use lib.ListN.{length};
 ghost use Rattle.kinds.specs.Answers.{Says};
 ghost use Rattle.kinds.specs.Edition.{edition1};
 ghost use Rattle.kinds.specs.Lengths.{exactly, RightLengths};
+ghost use Rattle.span.specs.Tools.{mostScanned};
 ghost use Rattle.order.specs.Order.{Moved};
 ghost use Rattle.mover.specs.Tool.{Moves};
-ghost use Rattle.mover.specs.Inside.{Few, Steps, TwoFrames};
+ghost use Rattle.mover.specs.Inside.{Steps, TwoFrames};
 use kinds::Answer;
 
 // 1 to 4.
@@ -52,7 +53,7 @@ fn move_words(columns: &[u16], frame: &[u32], out: &mut [u32])
 
 // One place more than columns: the last step of all, from the last word, is read and not used.
 fn steps_of(columns: &[u16]) -> [u16; 17]
-    requires { ⌜ Few (now columns) ⌝ }
+    requires { ⌜ length (now columns) ≤ mostScanned ⌝ }
     ensures { λ r. ⌜ Steps (now (columns .entry)) r ⌝ }
 {
     let mut steps = [0; 17];

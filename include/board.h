@@ -89,7 +89,8 @@ uint32_t board_move(uint32_t n, const uint16_t *columns, size_t columns_length, 
 /* The order that brings every word home. columns, out: n elements each. Refusals 1 to 4. */
 uint32_t board_inverse(uint32_t n, const uint16_t *columns, size_t columns_length, uint16_t *out, size_t out_length);
 
-/* What a sheet costs. sheet: 64 elements. sums: 3 elements, on 0 switches, multiplexers, xor gates. Refusals 1, 2, 5. */
+/* What a sheet costs. sheet: 64 elements. sums: 3 elements, on 0 switches, multiplexers (two for each switch) and xor
+ * gates. Refusals 1, 2, 5. */
 uint32_t board_price(uint32_t n, uint32_t k, const uint16_t *sheet, size_t sheet_length, uint32_t *sums,
                      size_t sums_length);
 

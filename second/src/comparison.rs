@@ -4,6 +4,7 @@
 
 use crate::random::Random;
 use crate::{board, model};
+use std::collections::BTreeSet;
 use std::fmt::{Debug, Write};
 use std::hint::black_box;
 
@@ -32,6 +33,23 @@ const TOOLS: [(Tool, &[usize]); 7] = [
 const WANTED_OF_EACH: u64 = 1000;
 const WANTED_IN_ALL: u64 = 1_000_000;
 const SHOWN: usize = 5;
+
+/// n, k, and the numbers of write and read stages of a sheet.
+type StageCounts = (u32, u32, usize, usize);
+
+/// Every n and k with every pair that the layout allows there: at t = 0 there is no control, so no stage.
+fn all_stage_counts() -> BTreeSet<StageCounts> {
+    let mut all = BTreeSet::new();
+    for n in 1..=10 {
+        for k in 1..=n.min(5) {
+            let most = if n > k { 8 } else { 0 };
+            for write in 0..=most {
+                all.extend((0..=most).map(|read| (n, k, write, read)));
+            }
+        }
+    }
+    all
+}
 
 /// Everything that one tick of the run is lent.
 #[derive(Clone, Debug, PartialEq)]
@@ -103,6 +121,8 @@ impl<T: Copy + PartialEq + Debug> Lent<T> {
 pub struct Comparison {
     pub random: Random,
     counts: [[u64; 16]; TOOLS.len()],
+    /// Of the prices that were answered 0.
+    priced: BTreeSet<StageCounts>,
     agreed: u64,
     differed: u64,
     facts_broken: u64,
@@ -114,6 +134,7 @@ impl Comparison {
         Comparison {
             random: Random::new(seed),
             counts: [[0; 16]; TOOLS.len()],
+            priced: BTreeSet::new(),
             agreed: 0,
             differed: 0,
             facts_broken: 0,
@@ -322,6 +343,14 @@ impl Comparison {
             lent_sheet.tell("sheet", sheet, report);
             sums.tell("sums", &expected, report);
         });
+        if (board, model) == (0, 0) {
+            let sides = [
+                model::write_side(n, k, sheet),
+                model::read_side(n, k, sheet),
+            ];
+            let [write, read] = sides.map(|side| side.stages().count());
+            self.priced.insert((n, k, write, read));
+        }
         (board, sums.content().to_vec())
     }
 
@@ -374,6 +403,14 @@ impl Comparison {
                 }
             }
             println!();
+        }
+        let wanted = all_stage_counts();
+        let missing: Vec<_> = wanted.difference(&self.priced).collect();
+        failed += missing.len() as u64;
+        let (all, priced) = (wanted.len(), wanted.len() - missing.len());
+        println!("\nprices of {priced} of the {all} pairs of stage counts, over all sizes");
+        for (n, k, write, read) in missing.into_iter().take(SHOWN) {
+            println!("  none at n {n}, k {k} with {write} write and {read} read stages");
         }
         for difference in &self.differences {
             print!("\n{difference}");

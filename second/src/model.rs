@@ -411,7 +411,7 @@ pub fn inverse(n: u32, columns: &[u16], out: &mut [u16]) -> u32 {
 
 // The price.
 
-/// Sums: switches, multiplexers, xor gates.
+/// Sums: switches, multiplexers, xor gates. A stage has 2^(k-1) switches; a switch is two multiplexers (request R-4).
 pub fn price(n: u32, k: u32, sheet: &[u16], sums: &mut [u32]) -> u32 {
     if !sizes(n, k) {
         return 1;
@@ -425,8 +425,9 @@ pub fn price(n: u32, k: u32, sheet: &[u16], sums: &mut [u32]) -> u32 {
     sums.fill(0);
     for side in [write_side(n, k, sheet), read_side(n, k, sheet)] {
         for (_, control) in side.stages() {
-            sums[0] += 1 << (k - 1);
-            sums[1] += 1 << (k - 1);
+            let switches = 1 << (k - 1);
+            sums[0] += switches;
+            sums[1] += 2 * switches;
             sums[2] += control.count_ones() - 1;
         }
     }

@@ -96,6 +96,12 @@ fn put_side(places: &mut [u16], addresses: &[u16], wiring: &[u16], stages: &[(u1
     places.fill(0);
     places[..addresses.len()].copy_from_slice(addresses);
     places[10..10 + wiring.len()].copy_from_slice(wiring);
+    put_stages(places, stages);
+}
+
+/// Replaces a side's stages.
+pub fn put_stages(places: &mut [u16], stages: &[(u16, u16)]) {
+    places[15..].fill(0);
     places[15] = stages.len() as u16;
     for (stage, &(direction, control)) in stages.iter().enumerate() {
         places[16 + 2 * stage] = direction;
@@ -264,11 +270,7 @@ fn rewrite_stages(random: &mut Random, k: u32, t: u32, places: &mut [u16]) {
         }
     }
     random.shuffle(&mut stages);
-    places[15] = stages.len() as u16;
-    for (stage, &(direction, control)) in stages.iter().enumerate() {
-        places[16 + 2 * stage] = direction;
-        places[17 + 2 * stage] = control;
-    }
+    put_stages(places, &stages);
 }
 
 /// M = N P holds with invertible wirings, and both M and N are singular (t is at least 1).

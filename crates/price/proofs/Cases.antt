@@ -7,6 +7,6 @@ use Rattle.sheet.specs.Sheet.{stagesIn}
 use Rattle.sheet.proofs.Cases.{reversal, staged}
 use Rattle.price.specs.Price.{total, priceOf}
 
-prices : (priceOf edition1 3 1 reversal ≡ 2 ∷ 2 ∷ 0 ∷ []) × (priceOf edition1 10 5 (staged 8 ++ staged 8) ≡ 256 ∷ 256 ∷ 64 ∷ [])
+prices : (priceOf edition1 3 1 reversal ≡ 2 ∷ 4 ∷ 0 ∷ []) × (priceOf edition1 10 5 (staged 8 ++ staged 8) ≡ 256 ∷ 512 ∷ 64 ∷ [])
 unfolding stagesIn total ones
 prices = (refl, refl)

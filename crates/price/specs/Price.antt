@@ -1,7 +1,7 @@
 -- What a sheet costs (01, 'Price').
 --   total f ss           the sum of f over the stages ss
 --   switches k s         "each stage has 2^(k-1) two-by-two switches"
---   multiplexers k s     "a switch is priced as one multiplexer"
+--   multiplexers k s     its multiplexers, two for each switch (R-4)
 --   xorGates s           "the ones in its control number, less one"
 --   allStages e n k s    the stages of both sides of the sheet s
 --   priceOf e n k s      its price: "three sums over both sides: switches, multiplexers, xor gates"
@@ -30,7 +30,7 @@ abbrev pub switches : ℕ → Stage → ℕ
 switches k s = 2 ^ (k - 1)
 
 abbrev pub multiplexers : ℕ → Stage → ℕ
-multiplexers k s = 1 * switches k s
+multiplexers k s = 2 * switches k s
 
 abbrev pub xorGates : Stage → ℕ
 xorGates s = ones (s .control) - 1

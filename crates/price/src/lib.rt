@@ -19,8 +19,8 @@ pub enum Priced {
     Refused(Refusal),
 }
 
-// "A switch is priced as one multiplexer" (01).
-const MULTIPLEXERS_OF_A_SWITCH: u32 = 1;
+// A switch is two multiplexers (R-4).
+const MULTIPLEXERS_OF_A_SWITCH: u32 = 2;
 
 // What the stages of both sides cost. 1, 2 and 5.
 pub fn price(n: u32, k: u32, sheet: &[u16]) -> Priced

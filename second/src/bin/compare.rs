@@ -1,7 +1,7 @@
 //! `compare [SEED]`: compares the board with the model, prints a table and, last, `N passed, M failed`.
 
 use second::comparison::Comparison;
-use second::parts::{by_hand, cards, orders, plain_agrees, refusals, runs, verdicts};
+use second::parts::{by_hand, cards, orders, plain_agrees, prices, refusals, runs, verdicts};
 use std::process::ExitCode;
 use std::time::Instant;
 
@@ -20,13 +20,14 @@ fn main() -> ExitCode {
     };
     println!("seed {seed}");
     let mut comparison = Comparison::new(seed);
-    let parts: [(&str, Part); 7] = [
+    let parts: [(&str, Part); 8] = [
         ("frames tried by hand", by_hand::compare),
         ("orders", orders::compare),
         ("refusals", refusals::compare),
         ("verdicts", verdicts::compare),
         ("runs", runs::compare),
         ("cards", cards::compare),
+        ("prices", prices::compare),
         ("plain tools", plain_agrees::compare),
     ];
     for (name, compare) in parts {

@@ -4,6 +4,7 @@ pub mod by_hand;
 pub mod cards;
 pub mod orders;
 pub mod plain_agrees;
+pub mod prices;
 pub mod refusals;
 pub mod runs;
 pub mod verdicts;

@@ -230,7 +230,7 @@ returns-2 c =
     let s = s (told at) in
     done-by (nothing (told at)) (three
     (switched at ∙ sym (of-each s n k (2 ^ (k - 1))))
-    (omega (arith, switched at, of-each s n k (1 * 2 ^ (k - 1))))
+    (omega (arith, switched at, of-each s n k (2 * 2 ^ (k - 1))))
     (ap₂ _+_ (write-gates (c .before .before)) (read-gates c) ∙ sym (total-append xorGates (writeSide edition1 n k s .stages) (readSide edition1 n k s .stages))))
 
 pub price-spec : {M : Type 1} → statement M

@@ -1,7 +1,7 @@
--- What a sheet costs (01, 'Price').
+-- What a sheet costs (01, 'Price', with R-4).
 --   total f ss           the sum of f over the stages ss
 --   switches k s         "each stage has 2^(k-1) two-by-two switches"
---   multiplexers k s     its multiplexers, two for each switch (R-4)
+--   multiplexers k s     "each 2-to-2 switch as two 2-to-1 multiplexers" (R-4)
 --   xorGates s           "the ones in its control number, less one"
 --   allStages e n k s    the stages of both sides of the sheet s
 --   priceOf e n k s      its price: "three sums over both sides: switches, multiplexers, xor gates"

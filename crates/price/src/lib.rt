@@ -1,4 +1,4 @@
-// The price of a sheet (01, 'Price').
+// The price of a sheet (01, 'Price', with R-4).
 ghost use mathlib.Core.Path.{_≡_};
 ghost use Rattle.kinds.specs.Edition.{edition1};
 ghost use Rattle.sheet.specs.Sheet.{stagesIn};
@@ -19,7 +19,7 @@ pub enum Priced {
     Refused(Refusal),
 }
 
-// A switch is two multiplexers (R-4).
+// By R-4; 01 had one.
 const MULTIPLEXERS_OF_A_SWITCH: u32 = 2;
 
 // What the stages of both sides cost. 1, 2 and 5.

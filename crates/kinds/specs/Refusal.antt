@@ -1,6 +1,6 @@
 -- What each refusal says, as 01's table 'When a tool says no' has it.
 --   numberOf r       its number
---   valuesOf r       the numbers that it carries: the two ports of 11 and 13, else none
+--   valuesOf r       the numbers that it carries: the column and the mask of 4 (02, R-8), the two ports of 11 and 13, else none
 --   said a           the refusal that an answer gives; none where it says done
 --   given o          the number of the refusal o; 0 where there is none
 use Prim.Native.Nat.{ℕ}
@@ -15,7 +15,7 @@ abbrev pub numberOf : Refusal → ℕ
 numberOf Sizes = 1
 numberOf Length = 2
 numberOf TooLarge = 3
-numberOf Dependent = 4
+numberOf (Dependent c m) = 4
 numberOf Layout = 5
 numberOf WriteWiring = 6
 numberOf ReadWiring = 7
@@ -32,7 +32,7 @@ abbrev pub valuesOf : Refusal → List ℕ
 valuesOf Sizes = []
 valuesOf Length = []
 valuesOf TooLarge = []
-valuesOf Dependent = []
+valuesOf (Dependent c m) = c ∷ m ∷ []
 valuesOf Layout = []
 valuesOf WriteWiring = []
 valuesOf ReadWiring = []

@@ -13,12 +13,12 @@ pub struct Bank(pub u32);
 
 pub struct Addr(pub u32);
 
-// A case for each number of 01's table; 11 and 13 name the first two ports that want one bank.
+// A case for each number of 01's table. 4 names the first column that is a sum of earlier ones, and the mask that says of which (02, R-8); 11 and 13 name the first two ports that want one bank.
 pub enum Refusal {
     Sizes,
     Length,
     TooLarge,
-    Dependent,
+    Dependent(u32, u32),
     Layout,
     WriteWiring,
     ReadWiring,
@@ -55,7 +55,7 @@ pub fn number(refusal: Refusal) -> u32
         Refusal::Sizes => 1,
         Refusal::Length => 2,
         Refusal::TooLarge => 3,
-        Refusal::Dependent => 4,
+        Refusal::Dependent(_, _) => 4,
         Refusal::Layout => 5,
         Refusal::WriteWiring => 6,
         Refusal::ReadWiring => 7,

@@ -1,6 +1,6 @@
 -- When an order is refused (01, 'When a tool says no', 1 to 4).
 --   tooLarge n C              3: a column is 2^n or more
---   dependent C               4: columns dependent
+--   dependent C               4: columns dependent. It names the first column that is a sum of earlier ones, and the mask that says of which (02, R-8)
 --   columnTable n Cs beside   2 to 4 of the lists of columns Cs, 2 for any of them, then 3 for any, then 4 for any, where the lengths lent beside them, and what they should be, are beside
 --   orderTable S d n C beside   1 to 4 of the one list C, where S says that the sizes are right, and d decides it
 --   inverseLengths n out      the length lent to the inverse beside the columns
@@ -16,6 +16,8 @@ use Rattle.kinds.specs.declared.Refusal.the-variants.{TooLarge, Dependent}
 use Rattle.kinds.specs.Lengths.{Wanted, exactly}
 use Rattle.span.specs.Sums.{Independent}
 use Rattle.span.specs.Decisions.{independent?}
+use Rattle.span.specs.Scan.{mask}
+use Rattle.span.specs.First.{firstSum}
 use Rattle.order.specs.Order.{ColumnTooLarge}
 use Rattle.order.specs.Decisions.{columnTooLarge?}
 
@@ -23,7 +25,7 @@ abbrev pub tooLarge : ℕ → List ℕ → Reason
 tooLarge n C = record { refusal = TooLarge; applies = ColumnTooLarge n C; decided = columnTooLarge? n C }
 
 abbrev pub dependent : List ℕ → Reason
-dependent C = unless Dependent (Independent C) (independent? C)
+dependent C = unless (Dependent (firstSum C) (mask C (firstSum C))) (Independent C) (independent? C)
 
 abbrev pub columnTable : ℕ → List (List ℕ) → List (ℕ × Wanted) → List Reason
 columnTable n Cs beside = wrongLength (map (λ C. (length C, exactly n)) Cs ++ beside) ∷ map (tooLarge n) Cs ++ map dependent Cs

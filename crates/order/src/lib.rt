@@ -1,8 +1,10 @@
 // Orders: the check that every tool makes of one, and the inverse.
+ghost use Prim.Native.Nat.{_≤_};
 ghost use mathlib.Core.Path.{_≡_};
 ghost use Rattle.kinds.specs.Answers.{Checks};
 ghost use Rattle.kinds.specs.Edition.{edition1, SizedN, Sized};
 ghost use Rattle.kinds.specs.Decisions.{sizedN?, sized?};
+ghost use Rattle.span.specs.Tools.{mostScanned};
 ghost use Rattle.order.specs.Table.{orderTable};
 ghost use Rattle.order.specs.Tools.{Inverts};
 ghost use Rattle.order.specs.Inside.{Few, ChecksColumns, ChecksAndScans, UndoesHeld};
@@ -46,6 +48,7 @@ fn check_and_scan(n: u32, columns: &[u16], fits: bool) -> Checked
 
 // 2 to 4, with the scan of the columns where none applies.
 fn check_columns(n: u32, columns: &[u16], fits: bool) -> Checked
+    requires { ⌜ n ≤ mostScanned ⌝ }
     ensures { λ r. ⌜ ChecksColumns n (now (columns .entry)) fits r ⌝ }
 {
     if !fits {
@@ -61,7 +64,8 @@ fn check_columns(n: u32, columns: &[u16], fits: bool) -> Checked
         return refused(Refusal::TooLarge);
     }
     if !independent {
-        return refused(Refusal::Dependent);
+        let sum = rows::first_sum(&scanned.masks);
+        return refused(Refusal::Dependent(sum.at, sum.mask));
     }
     let scan = scanned.scan;
     Checked {

@@ -1,4 +1,4 @@
-// Rows of a list of columns, and what a scan kept of them.
+// Rows of a list of columns, and what a scan kept of them, or of any numbers.
 ghost use mathlib.Core.Path.{_≡_};
 ghost use Prim.Native.Nat.{_/_, _^_, min};
 ghost use lib.ListN.{take};
@@ -6,7 +6,7 @@ ghost use Rattle.bits.specs.Image.{columns as columnsOf};
 ghost use Rattle.bits.specs.Padded.{arrayWidth, padded};
 ghost use Rattle.span.specs.Scan.{masks as masksOf};
 ghost use Rattle.span.specs.Rows.{row as rowIn, rows as rowsIn};
-ghost use Rattle.rows.specs.Listed.{keptIn, keptNumbers, unitsOf};
+ghost use Rattle.rows.specs.Listed.{keptIn, keptNumbers, unitsOf, NamesFirst};
 
 // Places of an array of columns, rows or masks.
 const WIDTH: usize = 16;
@@ -60,6 +60,29 @@ pub fn was_kept(masks: &[u16], i: usize) -> bool
         return false;
     }
     bits::two_to(i as u32) <= masks[i] as u32
+}
+
+// A number that is a sum of earlier ones: where it stands, and which earlier ones.
+pub struct Summed {
+    pub at: u32,
+    pub mask: u32,
+}
+
+// The first such number is the first that was not kept.
+pub fn first_sum(masks: &[u16]) -> Summed
+    ensures { λ r. ⌜ NamesFirst (now (masks .entry)) r ⌝ }
+{
+    let mut j = 0;
+    while j < masks.len() {
+        if !was_kept(masks, j) {
+            return Summed {
+                at: j as u32,
+                mask: masks[j] as u32,
+            };
+        }
+        j += 1;
+    }
+    Summed { at: 0, mask: 0 }
 }
 
 // Row numbers i, each as 2^i, and zeros after them.

@@ -3,6 +3,7 @@ pub mod Maps
 pub mod Sums
 pub mod Decisions
 pub mod Scan
+pub mod First
 pub mod Rows
 pub mod Held
 pub mod Tools

@@ -1,4 +1,5 @@
 -- `order::check_and_scan` meets its contract.
+use native.Mathlib.Omega.{arith}
 use borrow.Author.Needs.{needs}
 use borrow.Author.Tests.{not-true, not-false}
 use Rattle.kinds.specs.Edition.{edition1}
@@ -25,7 +26,7 @@ returns c =
     }
 
 check-columns-requires : tie.Need-check-columns-requires
-check-columns-requires c κs = search needs
+check-columns-requires c κs = omega (arith, c .before .sized-n .ensures .0 (not-false _ (c .if1 .left)))
 
 returns-2 : tie.Need-returns-2
 returns-2 c =

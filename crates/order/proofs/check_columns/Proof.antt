@@ -1,6 +1,6 @@
 -- `order::check_columns` meets its contract. It goes down the table from 2 to 4; past each test the reason does not apply.
-use Prim.Native.Nat.{ℕ}
-use mathlib.Core.Path.{_≡_, sym, ap, _∙_}
+use Prim.Native.Nat.{ℕ, _≤_}
+use mathlib.Core.Path.{_≡_, sym, ap, ap₂, _∙_}
 use mathlib.Core.Bool.{Bool, true, false}
 use mathlib.Core.List.{List, [], _∷_}
 use mathlib.Core.Option.{Option, some}
@@ -14,11 +14,12 @@ use Rattle.kinds.specs.Lengths.{Wanted, RightLengths}
 use Rattle.kinds.specs.Answers.{Says}
 use Rattle.kinds.specs.declared.Answer.the-variants.{Refused}
 use Rattle.kinds.specs.declared.Refusal.{Refusal}
-use Rattle.kinds.specs.declared.Refusal.the-variants.{Length}
+use Rattle.kinds.specs.declared.Refusal.the-variants.{Length, Dependent}
 use Rattle.kinds.proofs.TruthLaws.{denied}
 use Rattle.kinds.proofs.AnswerLaws.{not-both}
 use Rattle.kinds.proofs.FirstLaws.{first-nil, first-take, first-skip}
-use Rattle.span.proofs.ToolLaws.{scans-independent}
+use Rattle.span.specs.Tools.{mostScanned}
+use Rattle.span.proofs.ToolLaws.{scans-independent, scans-masks}
 use Rattle.order.specs.Table.{tooLarge, dependent, columnTable}
 use Rattle.order.specs.Inside.{ChecksColumns}
 use Rattle.order.specs.declared.Checked.{Checked}
@@ -67,6 +68,9 @@ scan-all-requires c κs = search needs
 refused-requires-3 : tie.Need-refused-requires-3
 refused-requires-3 c κs = search needs
 
+first-sum-requires : tie.Need-first-sum-requires
+first-sum-requires c κs = search needs
+
 refused-requires-4 : tie.Need-refused-requires-4
 refused-requires-4 c κs = search needs
 
@@ -77,6 +81,9 @@ module _ (c : tie.After-scan-all) where
 
   abbrev C : List ℕ
   C = start .args .columns .now
+
+  few : length C ≤ mostScanned
+  few = omega (arith, start .pre, c .before .before .if2 .left)
 
   past-lengths : {o : Option Refusal} → firstOf (tooLarge (start .args .n) C ∷ dependent C ∷ []) ≡ o → Gives (start .args .n) C (start .args .fits) o
   past-lengths = past-2 (c .before .before .if2 .left) (not-false _ (c .before .before .before .if1 .left))
@@ -91,9 +98,12 @@ returns-3 c =
 
 returns-4 : tie.Need-returns-4
 returns-4 c =
-    let scanned = c .before .before .before in
-    refuses (c .refused4 .ensures)
-    (past-3 scanned (not-false _ (c .before .before .if3 .left)) (first-take _ _ (denied (scanned .scan-all .ensures .says) (not-true _ (c .before .if4 .taken)))))
+    let found = c .before .before .before .before .before in
+    let scanned = found .before .before in
+    let dep = denied (scanned .scan-all .ensures .says) (not-true _ (found .if4 .taken)) in
+    let scans = scanned .scan-all .ensures in
+    let (at, mask) = c .before .first-sum .ensures (C scanned) (omega (arith, few scanned, scans .places)) (scans-masks scans (few scanned)) dep in
+    refuses (c .refused4 .ensures ∙ ap₂ (λ (i m : ℕ). Refused (Dependent i m)) at mask) (past-3 scanned (not-false _ (found .before .if3 .left)) (first-take _ _ dep))
 
 returns-5 : tie.Need-returns-5
 returns-5 c =
@@ -118,6 +128,7 @@ check-columns-spec =
     scan-all-requires
     refused-requires-3
     returns-3
+    first-sum-requires
     refused-requires-4
     returns-4
     returns-5)

@@ -1,5 +1,6 @@
 -- `order::check_with_k` meets its contract.
 use mathlib.Core.Path.{refl}
+use native.Mathlib.Omega.{arith}
 use borrow.Author.Needs.{needs}
 use borrow.Author.Tests.{not-true, not-false}
 use Rattle.kinds.specs.Edition.{edition1}
@@ -18,7 +19,7 @@ returns c =
     outside-sizes (sized? edition1 (start .args .n) (start .args .k)) _ (start .args .columns .now) _ (denied (c .before .sized .ensures) (not-true _ (c .if1 .taken))) refl
 
 check-columns-requires : tie.Need-check-columns-requires
-check-columns-requires c κs = search needs
+check-columns-requires c κs = omega (arith, c .before .sized .ensures .0 (not-false _ (c .if1 .left)))
 
 returns-2 : tie.Need-returns-2
 returns-2 c =

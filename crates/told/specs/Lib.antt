@@ -1,0 +1,3 @@
+-- What C is told of an answer.
+pub mod Told
+pub mod Places

@@ -7,11 +7,13 @@ mod names {
             n: u32, k: u32,
             columns: *const u16, columns_length: usize,
             sheet: *mut u16, sheet_length: usize,
+            said: *mut u32, said_length: usize,
         ) -> u32;
         pub fn board_inspect(
             n: u32, k: u32,
             columns: *const u16, columns_length: usize,
             sheet: *const u16, sheet_length: usize,
+            said: *mut u32, said_length: usize,
         ) -> u32;
         pub fn board_tick(
             n: u32, k: u32,
@@ -28,11 +30,13 @@ mod names {
             columns: *const u16, columns_length: usize,
             frame: *const u32, frame_length: usize,
             out: *mut u32, out_length: usize,
+            said: *mut u32, said_length: usize,
         ) -> u32;
         pub fn board_inverse(
             n: u32,
             columns: *const u16, columns_length: usize,
             out: *mut u16, out_length: usize,
+            said: *mut u32, said_length: usize,
         ) -> u32;
         pub fn board_price(
             n: u32, k: u32,
@@ -43,13 +47,14 @@ mod names {
             card: *const u8, card_length: usize,
             text: *mut u8, text_length: usize,
             length: *mut u32, length_length: usize,
+            said: *mut u32, said_length: usize,
         ) -> u32;
     }
 }
 
 // In each wrapper every pointer and length come from one slice, so the board may use exactly those places.
 
-pub fn plan(n: u32, k: u32, columns: &[u16], sheet: &mut [u16]) -> u32 {
+pub fn plan(n: u32, k: u32, columns: &[u16], sheet: &mut [u16], said: &mut [u32]) -> u32 {
     unsafe {
         names::board_plan(
             n,
@@ -58,11 +63,13 @@ pub fn plan(n: u32, k: u32, columns: &[u16], sheet: &mut [u16]) -> u32 {
             columns.len(),
             sheet.as_mut_ptr(),
             sheet.len(),
+            said.as_mut_ptr(),
+            said.len(),
         )
     }
 }
 
-pub fn inspect(n: u32, k: u32, columns: &[u16], sheet: &[u16]) -> u32 {
+pub fn inspect(n: u32, k: u32, columns: &[u16], sheet: &[u16], said: &mut [u32]) -> u32 {
     unsafe {
         names::board_inspect(
             n,
@@ -71,6 +78,8 @@ pub fn inspect(n: u32, k: u32, columns: &[u16], sheet: &[u16]) -> u32 {
             columns.len(),
             sheet.as_ptr(),
             sheet.len(),
+            said.as_mut_ptr(),
+            said.len(),
         )
     }
 }
@@ -110,7 +119,7 @@ pub fn tick(
 }
 
 /// The mover (`move` is a word of Rust).
-pub fn mover(n: u32, columns: &[u16], frame: &[u32], out: &mut [u32]) -> u32 {
+pub fn mover(n: u32, columns: &[u16], frame: &[u32], out: &mut [u32], said: &mut [u32]) -> u32 {
     unsafe {
         names::board_move(
             n,
@@ -120,11 +129,13 @@ pub fn mover(n: u32, columns: &[u16], frame: &[u32], out: &mut [u32]) -> u32 {
             frame.len(),
             out.as_mut_ptr(),
             out.len(),
+            said.as_mut_ptr(),
+            said.len(),
         )
     }
 }
 
-pub fn inverse(n: u32, columns: &[u16], out: &mut [u16]) -> u32 {
+pub fn inverse(n: u32, columns: &[u16], out: &mut [u16], said: &mut [u32]) -> u32 {
     unsafe {
         names::board_inverse(
             n,
@@ -132,6 +143,8 @@ pub fn inverse(n: u32, columns: &[u16], out: &mut [u16]) -> u32 {
             columns.len(),
             out.as_mut_ptr(),
             out.len(),
+            said.as_mut_ptr(),
+            said.len(),
         )
     }
 }
@@ -149,7 +162,7 @@ pub fn price(n: u32, k: u32, sheet: &[u16], sums: &mut [u32]) -> u32 {
     }
 }
 
-pub fn list(card: &[u8], text: &mut [u8], length: &mut [u32]) -> u32 {
+pub fn list(card: &[u8], text: &mut [u8], length: &mut [u32], said: &mut [u32]) -> u32 {
     unsafe {
         names::board_list(
             card.as_ptr(),
@@ -158,6 +171,8 @@ pub fn list(card: &[u8], text: &mut [u8], length: &mut [u32]) -> u32 {
             text.len(),
             length.as_mut_ptr(),
             length.len(),
+            said.as_mut_ptr(),
+            said.len(),
         )
     }
 }

@@ -1,7 +1,9 @@
 //! Calls the board and the model with the same inputs, compares answers and every buffer, and counts.
 //!
 //! Each method lends buffers filled with random content and returns what the board gave.
+//! A method `_saying` lends a `said` of any number of places and returns it too; the method without lends its 3 places.
 
+use crate::model::SAID_PLACES;
 use crate::random::Random;
 use crate::{board, model};
 use std::collections::BTreeSet;
@@ -63,6 +65,15 @@ pub struct TickCall {
     pub words: Vec<u32>,
     pub marks: Vec<u8>,
     pub said: Vec<u32>,
+}
+
+/// Content for `said`: each number differs from the others, and from all that a tool may say.
+pub fn unsaid(random: &mut Random, length: usize) -> Vec<u32> {
+    let mut content = random.words(length);
+    for (place, word) in content.iter_mut().enumerate() {
+        *word = 1 << 31 | *word << 8 | place as u32;
+    }
+    content
 }
 
 const GUARD: usize = 8;
@@ -179,41 +190,82 @@ impl Comparison {
     }
 
     pub fn plan(&mut self, n: u32, k: u32, columns: &[u16], length: usize) -> (u32, Vec<u16>) {
-        let guard = self.guard() as u16;
+        let (answer, sheet, _) = self.plan_saying(n, k, columns, length, SAID_PLACES);
+        (answer, sheet)
+    }
+
+    /// `length` and `said` are the numbers of places lent.
+    pub fn plan_saying(
+        &mut self,
+        n: u32,
+        k: u32,
+        columns: &[u16],
+        length: usize,
+        said: usize,
+    ) -> (u32, Vec<u16>, Vec<u32>) {
+        let guard = self.guard();
         let before = self.random.halfwords(length);
+        let said_before = unsaid(&mut self.random, said);
         let mut expected = before.clone();
-        let model = model::plan(n, k, columns, &mut expected);
+        let mut expected_said = said_before.clone();
+        let model = model::plan(n, k, columns, &mut expected, &mut expected_said);
 
-        let mut lent_columns = Lent::new(columns, guard);
-        let mut sheet = Lent::new(&before, guard);
-        let board = board::plan(n, k, lent_columns.places(), sheet.places());
+        let mut lent_columns = Lent::new(columns, guard as u16);
+        let mut sheet = Lent::new(&before, guard as u16);
+        let mut said = Lent::new(&said_before, guard as u32);
+        let board = board::plan(n, k, lent_columns.places(), sheet.places(), said.places());
 
-        let same = lent_columns.holds(columns) && sheet.holds(&expected);
+        let same =
+            lent_columns.holds(columns) && sheet.holds(&expected) && said.holds(&expected_said);
         self.count(Tool::Plan, (board, model), same, |report| {
             let _ = writeln!(report, "  n {n}, k {k}, columns {columns:?}");
-            let _ = writeln!(report, "  sheet before {before:?}");
+            let _ = writeln!(report, "  sheet before {before:?}, said {said_before:?}");
             lent_columns.tell("columns", columns, report);
             sheet.tell("sheet", &expected, report);
+            said.tell("said", &expected_said, report);
         });
-        (board, sheet.content().to_vec())
+        (board, sheet.content().to_vec(), said.content().to_vec())
     }
 
     pub fn inspect(&mut self, n: u32, k: u32, columns: &[u16], sheet: &[u16]) -> u32 {
-        let guard = self.guard() as u16;
-        let model = model::inspect(n, k, columns, sheet);
+        self.inspect_saying(n, k, columns, sheet, SAID_PLACES).0
+    }
 
-        let mut lent_columns = Lent::new(columns, guard);
-        let mut lent_sheet = Lent::new(sheet, guard);
-        let board = board::inspect(n, k, lent_columns.places(), lent_sheet.places());
+    /// `said` is the number of places lent.
+    pub fn inspect_saying(
+        &mut self,
+        n: u32,
+        k: u32,
+        columns: &[u16],
+        sheet: &[u16],
+        said: usize,
+    ) -> (u32, Vec<u32>) {
+        let guard = self.guard();
+        let said_before = unsaid(&mut self.random, said);
+        let mut expected_said = said_before.clone();
+        let model = model::inspect(n, k, columns, sheet, &mut expected_said);
 
-        let same = lent_columns.holds(columns) && lent_sheet.holds(sheet);
+        let mut lent_columns = Lent::new(columns, guard as u16);
+        let mut lent_sheet = Lent::new(sheet, guard as u16);
+        let mut said = Lent::new(&said_before, guard as u32);
+        let board = board::inspect(
+            n,
+            k,
+            lent_columns.places(),
+            lent_sheet.places(),
+            said.places(),
+        );
+
+        let same =
+            lent_columns.holds(columns) && lent_sheet.holds(sheet) && said.holds(&expected_said);
         self.count(Tool::Inspect, (board, model), same, |report| {
             let _ = writeln!(report, "  n {n}, k {k}, columns {columns:?}");
-            let _ = writeln!(report, "  sheet {sheet:?}");
+            let _ = writeln!(report, "  sheet {sheet:?}, said before {said_before:?}");
             lent_columns.tell("columns", columns, report);
             lent_sheet.tell("sheet", sheet, report);
+            said.tell("said", &expected_said, report);
         });
-        board
+        (board, said.content().to_vec())
     }
 
     /// `call` afterwards holds what the board left.
@@ -283,47 +335,88 @@ impl Comparison {
         frame: &[u32],
         length: usize,
     ) -> (u32, Vec<u32>) {
+        let (answer, out, _) = self.mover_saying(n, columns, frame, length, SAID_PLACES);
+        (answer, out)
+    }
+
+    /// `length` and `said` are the numbers of places lent.
+    pub fn mover_saying(
+        &mut self,
+        n: u32,
+        columns: &[u16],
+        frame: &[u32],
+        length: usize,
+        said: usize,
+    ) -> (u32, Vec<u32>, Vec<u32>) {
         let guard = self.guard();
         let before = self.random.words(length);
+        let said_before = unsaid(&mut self.random, said);
         let mut expected = before.clone();
-        let model = model::mover(n, columns, frame, &mut expected);
+        let mut expected_said = said_before.clone();
+        let model = model::mover(n, columns, frame, &mut expected, &mut expected_said);
 
         let mut lent_columns = Lent::new(columns, guard as u16);
         let mut lent_frame = Lent::new(frame, guard as u32);
         let mut out = Lent::new(&before, guard as u32);
-        let board = board::mover(n, lent_columns.places(), lent_frame.places(), out.places());
+        let mut said = Lent::new(&said_before, guard as u32);
+        let board = board::mover(
+            n,
+            lent_columns.places(),
+            lent_frame.places(),
+            out.places(),
+            said.places(),
+        );
 
-        let same = lent_columns.holds(columns) && lent_frame.holds(frame) && out.holds(&expected);
+        let same = lent_columns.holds(columns)
+            && lent_frame.holds(frame)
+            && out.holds(&expected)
+            && said.holds(&expected_said);
         self.count(Tool::Move, (board, model), same, |report| {
             let _ = writeln!(report, "  n {n}, columns {columns:?}, frame {frame:?}");
-            let _ = writeln!(report, "  out before {before:?}");
+            let _ = writeln!(report, "  out before {before:?}, said {said_before:?}");
             lent_columns.tell("columns", columns, report);
             lent_frame.tell("frame", frame, report);
             out.tell("out", &expected, report);
+            said.tell("said", &expected_said, report);
         });
-        (board, out.content().to_vec())
+        (board, out.content().to_vec(), said.content().to_vec())
     }
 
     pub fn inverse(&mut self, n: u32, columns: &[u16], length: usize) -> (u32, Vec<u16>) {
-        let guard = self.guard() as u16;
+        let (answer, out, _) = self.inverse_saying(n, columns, length, SAID_PLACES);
+        (answer, out)
+    }
+
+    /// `length` and `said` are the numbers of places lent.
+    pub fn inverse_saying(
+        &mut self,
+        n: u32,
+        columns: &[u16],
+        length: usize,
+        said: usize,
+    ) -> (u32, Vec<u16>, Vec<u32>) {
+        let guard = self.guard();
         let before = self.random.halfwords(length);
+        let said_before = unsaid(&mut self.random, said);
         let mut expected = before.clone();
-        let model = model::inverse(n, columns, &mut expected);
+        let mut expected_said = said_before.clone();
+        let model = model::inverse(n, columns, &mut expected, &mut expected_said);
 
-        let mut lent_columns = Lent::new(columns, guard);
-        let mut out = Lent::new(&before, guard);
-        let board = board::inverse(n, lent_columns.places(), out.places());
+        let mut lent_columns = Lent::new(columns, guard as u16);
+        let mut out = Lent::new(&before, guard as u16);
+        let mut said = Lent::new(&said_before, guard as u32);
+        let board = board::inverse(n, lent_columns.places(), out.places(), said.places());
 
-        let same = lent_columns.holds(columns) && out.holds(&expected);
+        let same =
+            lent_columns.holds(columns) && out.holds(&expected) && said.holds(&expected_said);
         self.count(Tool::Inverse, (board, model), same, |report| {
-            let _ = writeln!(
-                report,
-                "  n {n}, columns {columns:?}, out before {before:?}"
-            );
+            let _ = writeln!(report, "  n {n}, columns {columns:?}");
+            let _ = writeln!(report, "  out before {before:?}, said {said_before:?}");
             lent_columns.tell("columns", columns, report);
             out.tell("out", &expected, report);
+            said.tell("said", &expected_said, report);
         });
-        (board, out.content().to_vec())
+        (board, out.content().to_vec(), said.content().to_vec())
     }
 
     pub fn price(&mut self, n: u32, k: u32, sheet: &[u16], length: usize) -> (u32, Vec<u32>) {
@@ -356,29 +449,61 @@ impl Comparison {
 
     /// `text` and `length` are the numbers of places lent; the content past the listing is random.
     pub fn list(&mut self, card: &[u8], text: usize, length: usize) -> (u32, Vec<u8>, Vec<u32>) {
+        let (answer, text, length, _) = self.list_saying(card, text, length, SAID_PLACES);
+        (answer, text, length)
+    }
+
+    /// `text`, `length` and `said` are the numbers of places lent.
+    pub fn list_saying(
+        &mut self,
+        card: &[u8],
+        text: usize,
+        length: usize,
+        said: usize,
+    ) -> (u32, Vec<u8>, Vec<u32>, Vec<u32>) {
         let guard = self.guard();
         let text_before = self.random.bytes(text);
         let length_before = self.random.words(length);
+        let said_before = unsaid(&mut self.random, said);
         let mut expected_text = text_before.clone();
         let mut expected_length = length_before.clone();
-        let model = model::list(card, &mut expected_text, &mut expected_length);
+        let mut expected_said = said_before.clone();
+        let model = model::list(
+            card,
+            &mut expected_text,
+            &mut expected_length,
+            &mut expected_said,
+        );
 
         let mut lent_card = Lent::new(card, guard as u8);
         let mut text = Lent::new(&text_before, guard as u8);
         let mut length = Lent::new(&length_before, guard as u32);
-        let board = board::list(lent_card.places(), text.places(), length.places());
+        let mut said = Lent::new(&said_before, guard as u32);
+        let board = board::list(
+            lent_card.places(),
+            text.places(),
+            length.places(),
+            said.places(),
+        );
 
-        let same =
-            lent_card.holds(card) && text.holds(&expected_text) && length.holds(&expected_length);
+        let same = lent_card.holds(card)
+            && text.holds(&expected_text)
+            && length.holds(&expected_length)
+            && said.holds(&expected_said);
         self.count(Tool::List, (board, model), same, |report| {
             let _ = writeln!(report, "  card {:?}", String::from_utf8_lossy(card));
             let _ = writeln!(report, "  text has {} places", text_before.len());
-            let _ = writeln!(report, "  length before {length_before:?}");
+            let _ = writeln!(
+                report,
+                "  length before {length_before:?}, said {said_before:?}"
+            );
             lent_card.tell("card", card, report);
             text.tell("text", &expected_text, report);
             length.tell("length", &expected_length, report);
+            said.tell("said", &expected_said, report);
         });
-        (board, text.content().to_vec(), length.content().to_vec())
+        let [length, said] = [length, said].map(|lent| lent.content().to_vec());
+        (board, text.content().to_vec(), length, said)
     }
 
     /// Prints the table, the first differences and the last line; true if nothing failed.

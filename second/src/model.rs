@@ -3,6 +3,7 @@
 pub const SHEET_PLACES: usize = 64;
 pub const SIDE_PLACES: usize = 32;
 pub const TEXT_PLACES: usize = 8192;
+pub const SAID_PLACES: usize = 3;
 
 // Orders.
 
@@ -20,6 +21,18 @@ pub fn apply(columns: &[u16], i: u32) -> u32 {
 /// Some sum of one column or more is zero.
 pub fn dependent(columns: &[u16]) -> bool {
     (1..1 << columns.len()).any(|mask| apply(columns, mask) == 0)
+}
+
+/// The first column that is a sum of earlier ones, and the mask of which (request R-8).
+pub fn first_sum(columns: &[u16]) -> Option<(u32, u32)> {
+    for (j, &column) in columns.iter().enumerate() {
+        let earlier = &columns[..j];
+        let mut masks = 0..1 << j;
+        if let Some(mask) = masks.find(|&mask| apply(earlier, mask) == u32::from(column)) {
+            return Some((j as u32, mask));
+        }
+    }
+    None
 }
 
 /// `columns` as a map of its own width, every image hit.
@@ -63,12 +76,16 @@ pub fn sizes(n: u32, k: u32) -> bool {
     size_n(n) && 1 <= k && k <= n.min(5)
 }
 
-/// 3 or 4, if one applies.
-fn order_refusal(n: u32, columns: &[u16]) -> Option<u32> {
+/// 3 or 4, if one applies; 4 names its column and sum in `said`.
+fn order_refusal(n: u32, columns: &[u16], said: &mut [u32]) -> Option<u32> {
     if columns.iter().any(|&column| u32::from(column) >= 1 << n) {
         return Some(3);
     }
-    dependent(columns).then_some(4)
+    if !dependent(columns) {
+        return None;
+    }
+    (said[1], said[2]) = first_sum(columns).expect("the last column of a zero sum is one");
+    Some(4)
 }
 
 // Sheets.
@@ -156,14 +173,14 @@ fn keeps_layout(n: u32, k: u32, sheet: &[u16]) -> bool {
 
 // The planner.
 
-pub fn plan(n: u32, k: u32, columns: &[u16], sheet: &mut [u16]) -> u32 {
+pub fn plan(n: u32, k: u32, columns: &[u16], sheet: &mut [u16], said: &mut [u32]) -> u32 {
     if !sizes(n, k) {
         return 1;
     }
-    if columns.len() != n as usize || sheet.len() != SHEET_PLACES {
+    if columns.len() != n as usize || sheet.len() != SHEET_PLACES || said.len() != SAID_PLACES {
         return 2;
     }
-    if let Some(number) = order_refusal(n, columns) {
+    if let Some(number) = order_refusal(n, columns, said) {
         return number;
     }
     sheet.copy_from_slice(&planned(n, k, columns));
@@ -241,14 +258,14 @@ fn plan_write(columns: &[u16], read: Side, write: &mut [u16]) {
 
 // The inspector.
 
-pub fn inspect(n: u32, k: u32, columns: &[u16], sheet: &[u16]) -> u32 {
+pub fn inspect(n: u32, k: u32, columns: &[u16], sheet: &[u16], said: &mut [u32]) -> u32 {
     if !sizes(n, k) {
         return 1;
     }
-    if columns.len() != n as usize || sheet.len() != SHEET_PLACES {
+    if columns.len() != n as usize || sheet.len() != SHEET_PLACES || said.len() != SAID_PLACES {
         return 2;
     }
-    if let Some(number) = order_refusal(n, columns) {
+    if let Some(number) = order_refusal(n, columns, said) {
         return number;
     }
     if !keeps_layout(n, k, sheet) {
@@ -299,7 +316,7 @@ pub fn tick(
         || out.len() != ports
         || words.len() != 2 * frame
         || marks.len() != 2 * frame
-        || said.len() != 3
+        || said.len() != SAID_PLACES
     {
         return 2;
     }
@@ -376,14 +393,18 @@ fn first_pair(side: Side, numbers: &[u32]) -> Option<(u32, u32)> {
 // The mover and the inverse.
 
 /// The mover (`move` is a word of Rust).
-pub fn mover(n: u32, columns: &[u16], frame: &[u32], out: &mut [u32]) -> u32 {
+pub fn mover(n: u32, columns: &[u16], frame: &[u32], out: &mut [u32], said: &mut [u32]) -> u32 {
     if !size_n(n) {
         return 1;
     }
-    if columns.len() != n as usize || frame.len() != 1 << n || out.len() != 1 << n {
+    if columns.len() != n as usize
+        || frame.len() != 1 << n
+        || out.len() != 1 << n
+        || said.len() != SAID_PLACES
+    {
         return 2;
     }
-    if let Some(number) = order_refusal(n, columns) {
+    if let Some(number) = order_refusal(n, columns, said) {
         return number;
     }
     for i in 0..1u32 << n {
@@ -392,14 +413,14 @@ pub fn mover(n: u32, columns: &[u16], frame: &[u32], out: &mut [u32]) -> u32 {
     0
 }
 
-pub fn inverse(n: u32, columns: &[u16], out: &mut [u16]) -> u32 {
+pub fn inverse(n: u32, columns: &[u16], out: &mut [u16], said: &mut [u32]) -> u32 {
     if !size_n(n) {
         return 1;
     }
-    if columns.len() != n as usize || out.len() != n as usize {
+    if columns.len() != n as usize || out.len() != n as usize || said.len() != SAID_PLACES {
         return 2;
     }
-    if let Some(number) = order_refusal(n, columns) {
+    if let Some(number) = order_refusal(n, columns, said) {
         return number;
     }
     for j in 0..n {
@@ -436,7 +457,7 @@ pub fn price(n: u32, k: u32, sheet: &[u16], sums: &mut [u32]) -> u32 {
 
 // The listing.
 
-pub fn list(card: &[u8], text: &mut [u8], length: &mut [u32]) -> u32 {
+pub fn list(card: &[u8], text: &mut [u8], length: &mut [u32], said: &mut [u32]) -> u32 {
     let Some(numbers) = read_card(card) else {
         return 15;
     };
@@ -444,10 +465,14 @@ pub fn list(card: &[u8], text: &mut [u8], length: &mut [u32]) -> u32 {
     if !sizes(n, k) {
         return 1;
     }
-    if columns.len() != n as usize || text.len() < TEXT_PLACES || length.len() != 1 {
+    if columns.len() != n as usize
+        || text.len() < TEXT_PLACES
+        || length.len() != 1
+        || said.len() != SAID_PLACES
+    {
         return 2;
     }
-    if let Some(number) = order_refusal(n, columns) {
+    if let Some(number) = order_refusal(n, columns, said) {
         return number;
     }
     let listing = listing(n, k, columns);
@@ -526,7 +551,7 @@ mod tests {
 
     fn stages_of(n: u32, k: u32, columns: &[u16]) -> [Vec<(u32, u32)>; 2] {
         let sheet = planned(n, k, columns);
-        assert_eq!(inspect(n, k, columns, &sheet), 0);
+        assert_eq!(inspect(n, k, columns, &sheet, &mut [0; 3]), 0);
         [write_side(n, k, &sheet), read_side(n, k, &sheet)].map(|side| side.stages().collect())
     }
 
@@ -548,8 +573,18 @@ mod tests {
         for (place, number, verdict) in [(17, 1, 8), (10, 0, 6), (42, 0, 7)] {
             let mut changed = sheet.clone();
             changed[place] = number;
-            assert_eq!(inspect(3, 1, &[4, 2, 1], &changed), verdict);
+            let answer = inspect(3, 1, &[4, 2, 1], &changed, &mut [0; 3]);
+            assert_eq!(answer, verdict);
         }
+    }
+
+    #[test]
+    fn first_columns_that_are_sums() {
+        assert_eq!(first_sum(&[4, 2, 1]), None);
+        assert_eq!(first_sum(&[1, 2, 1]), Some((2, 1)));
+        assert_eq!(first_sum(&[1, 2, 3]), Some((2, 3)));
+        assert_eq!(first_sum(&[1, 1, 0]), Some((1, 1)));
+        assert_eq!(first_sum(&[0, 1, 1]), Some((0, 0)));
     }
 
     #[test]

@@ -3,6 +3,7 @@
 
 const SHEET_PLACES: usize = 64;
 const SIDE_PLACES: usize = 32;
+const SAID_PLACES: usize = 3;
 const MOST_N: usize = 10;
 const MOST_PORTS: usize = 32;
 
@@ -62,12 +63,19 @@ fn independent(columns: impl IntoIterator<Item = u32>) -> bool {
     columns.into_iter().all(|column| basis.keep(column))
 }
 
-fn check_order(n: u32, columns: &[u16]) -> Result<(), u32> {
+/// 4 names in `said` the first column that is a sum of earlier ones, and the mask of which.
+fn check_order(n: u32, columns: &[u16], said: &mut [u32]) -> Result<(), u32> {
     if columns.iter().any(|&column| column >> n != 0) {
         return Err(3);
     }
-    if !independent(columns.iter().map(|&column| u32::from(column))) {
-        return Err(4);
+    let mut basis = Basis::new();
+    for &column in columns {
+        if !basis.keep(column.into()) {
+            // All earlier columns were kept, so the kept ones' mask is theirs.
+            let (_, mask) = basis.reduce(column.into());
+            (said[1], said[2]) = (basis.kept as u32, mask);
+            return Err(4);
+        }
     }
     Ok(())
 }
@@ -142,14 +150,14 @@ fn read_sheet(n: u32, k: u32, sheet: &[u16]) -> Option<(Side<'_>, Side<'_>)> {
     Some((Side::read(n, k, write)?, Side::read(n, k, read)?))
 }
 
-pub fn plan(n: u32, k: u32, columns: &[u16], sheet: &mut [u16]) -> u32 {
+pub fn plan(n: u32, k: u32, columns: &[u16], sheet: &mut [u16], said: &mut [u32]) -> u32 {
     if !sizes_fit(n, k) {
         return 1;
     }
-    if columns.len() != n as usize || sheet.len() != SHEET_PLACES {
+    if columns.len() != n as usize || sheet.len() != SHEET_PLACES || said.len() != SAID_PLACES {
         return 2;
     }
-    if let Err(number) = check_order(n, columns) {
+    if let Err(number) = check_order(n, columns, said) {
         return number;
     }
     sheet.fill(0);
@@ -236,14 +244,14 @@ fn plan_write(n: u32, k: u32, columns: &[u16], read_stages: &[(u32, u32)], write
     write[15] = directions.kept as u16;
 }
 
-pub fn inspect(n: u32, k: u32, columns: &[u16], sheet: &[u16]) -> u32 {
+pub fn inspect(n: u32, k: u32, columns: &[u16], sheet: &[u16], said: &mut [u32]) -> u32 {
     if !sizes_fit(n, k) {
         return 1;
     }
-    if columns.len() != n as usize || sheet.len() != SHEET_PLACES {
+    if columns.len() != n as usize || sheet.len() != SHEET_PLACES || said.len() != SAID_PLACES {
         return 2;
     }
-    if let Err(number) = check_order(n, columns) {
+    if let Err(number) = check_order(n, columns, said) {
         return number;
     }
     let Some((write, read)) = read_sheet(n, k, sheet) else {
@@ -288,7 +296,7 @@ pub fn tick(
         && out.len() == ports
         && words.len() == 2 * frame
         && marks.len() == 2 * frame
-        && said.len() == 3;
+        && said.len() == SAID_PLACES;
     if !lengths_fit {
         return 2;
     }
@@ -367,14 +375,18 @@ fn first_pair(cells: &[usize], ports: usize) -> Option<(u32, u32)> {
     None
 }
 
-pub fn mover(n: u32, columns: &[u16], frame: &[u32], out: &mut [u32]) -> u32 {
+pub fn mover(n: u32, columns: &[u16], frame: &[u32], out: &mut [u32], said: &mut [u32]) -> u32 {
     if !(1..=10).contains(&n) {
         return 1;
     }
-    if columns.len() != n as usize || frame.len() != 1 << n || out.len() != 1 << n {
+    let lengths_fit = columns.len() == n as usize
+        && frame.len() == 1 << n
+        && out.len() == 1 << n
+        && said.len() == SAID_PLACES;
+    if !lengths_fit {
         return 2;
     }
-    if let Err(number) = check_order(n, columns) {
+    if let Err(number) = check_order(n, columns, said) {
         return number;
     }
     for (i, &word) in frame.iter().enumerate() {

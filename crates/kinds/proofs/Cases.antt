@@ -1,5 +1,5 @@
 -- 01's sizes and refusals on the written meanings: a sheet has 64 places, 32 a side; n 10 with k 5 is taken, and n 11, k 6, k 0, and n 2 with k 3 are not;
--- 11 and 13 carry their ports; an answer that is no refusal is 0, and of several reasons the first that applies is given.
+-- 4 carries its column and its mask, and 11 and 13 their ports; an answer that is no refusal is 0, and of several reasons the first that applies is given.
 use mathlib.Core.Path.{_≡_, refl}
 use mathlib.Core.List.{[], _∷_, map}
 use native.Mathlib.Omega.{arith}
@@ -7,7 +7,7 @@ use Rattle.kinds.specs.Edition.{edition1, sidePlaces, sheetPlaces, Sized
 use Rattle.kinds.specs.Refusal.{valuesOf, given}
 use Rattle.kinds.specs.First.{Reason, firstOf}
 use Rattle.kinds.specs.declared.Refusal.{Refusal}
-use Rattle.kinds.specs.declared.Refusal.the-variants.{Sizes, Length, Layout, WriteClash, ReadClash}
+use Rattle.kinds.specs.declared.Refusal.the-variants.{Sizes, Length, TooLarge, Dependent, Layout, WriteClash, ReadClash}
 
 places : (sidePlaces edition1 ≡ 32) × (sheetPlaces edition1 ≡ 64)
 places = (refl, refl)
@@ -18,8 +18,8 @@ largest = record { frame = record { least = omega arith; most = omega arith }; l
 outside : (¬ SizedN edition1 11) × (¬ Sized edition1 10 6) × (¬ Sized edition1 10 0) × (¬ Sized edition1 2 3)
 outside = (λ s. omega (arith, s .most), λ s. omega (arith, s .most), λ s. omega (arith, s .least), λ s. omega (arith, s .most))
 
-values : map valuesOf (Layout ∷ WriteClash (record { 0 = 0 }) (record { 0 = 3 }) ∷ ReadClash (record { 0 = 1 }) (record { 0 = 2 }) ∷ [])
-    ≡ [] ∷ (0 ∷ 3 ∷ []) ∷ (1 ∷ 2 ∷ []) ∷ []
+values : map valuesOf (TooLarge ∷ Dependent 2 1 ∷ Layout ∷ WriteClash (record { 0 = 0 }) (record { 0 = 3 }) ∷ ReadClash (record { 0 = 1 }) (record { 0 = 2 }) ∷ [])
+    ≡ [] ∷ (2 ∷ 1 ∷ []) ∷ [] ∷ (0 ∷ 3 ∷ []) ∷ (1 ∷ 2 ∷ []) ∷ []
 values = refl
 
 always : Refusal → Reason

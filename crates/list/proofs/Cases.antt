@@ -1,5 +1,5 @@
 -- What is printed for cards, computed on the written meaning: 01's listing; Gray code at n 3, where the words would differ if the order were taken for its inverse; one tick without stages. Cards that
--- are refused: a leading zero and one number alone (15), sizes (1) before columns too few or too large, the count of columns (2), a column too large (3), dependent columns (4).
+-- are refused: a leading zero and one number alone (15), sizes (1) before columns too few or too large, the count of columns (2), a column too large (3), dependent columns (4): 02's line, a sum of two, several at once, a column of zeros.
 use Prim.Native.Nat.{ℕ}
 use Prim.Native.String.{String}
 use mathlib.Core.Path.{_≡_, refl}
@@ -16,6 +16,7 @@ use Rattle.bits.specs.Image.{image, columns}
 use Rattle.bits.specs.Parity.{parity, dot}
 use Rattle.span.specs.Decisions.{sumOf?, independent?}
 use Rattle.span.specs.Scan.{keptAt, others, mask, masks}
+use Rattle.span.specs.First.{firstSum}
 use Rattle.span.specs.Rows.{dots, rows}
 use Rattle.text.specs.Decimal.{codes, decimalIn}
 use Rattle.text.proofs.RowLaws.{row?}
@@ -32,7 +33,7 @@ unfolding image columns ℕ-discrete sumOf? someBelow those keptAt others mask m
 planned = tt
 
 computed : Unit {0}
-unfolding planned codes decimalIn row? card? decLe firstOf sized? rightLengths? independent? spaced flatten
+unfolding planned codes decimalIn row? card? decLe firstOf sized? rightLengths? independent? firstSum spaced flatten
 computed = tt
 
 abbrev prints : String → List ℕ
@@ -47,7 +48,12 @@ listings : map prints ("3 1 4 2 1\n" ∷ "3 1 1 3 6\n" ∷ "2 2 2 1\n" ∷ [])
 unfolding computed
 listings = refl
 
-refusals : map prints ("01 1 1\n" ∷ "2\n" ∷ "11 6\n" ∷ "2 3 4 4\n" ∷ "3 1\n" ∷ "2 1 4 4\n" ∷ "2 1 1 1\n" ∷ [])
-    ≡ map codes ("refused 15\n" ∷ "refused 15\n" ∷ "refused 1\n" ∷ "refused 1\n" ∷ "refused 2\n" ∷ "refused 3\n" ∷ "refused 4\n" ∷ [])
+refusals : map prints ("01 1 1\n" ∷ "2\n" ∷ "11 6\n" ∷ "2 3 4 4\n" ∷ "3 1\n" ∷ "2 1 4 4\n" ∷ [])
+    ≡ map codes ("refused 15\n" ∷ "refused 15\n" ∷ "refused 1\n" ∷ "refused 1\n" ∷ "refused 2\n" ∷ "refused 3\n" ∷ [])
 unfolding computed
 refusals = refl
+
+dependent : map prints ("3 1 1 2 1\n" ∷ "3 1 1 2 3\n" ∷ "3 1 5 5 5\n" ∷ "3 1 0 1 1\n" ∷ [])
+    ≡ map codes ("refused 4 column 2 from 1\n" ∷ "refused 4 column 2 from 3\n" ∷ "refused 4 column 1 from 1\n" ∷ "refused 4 column 0 from 0\n" ∷ [])
+unfolding computed
+dependent = refl

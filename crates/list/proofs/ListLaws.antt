@@ -3,15 +3,14 @@
 --   listed-read       the text for the order that was read is the card's
 --   lengths-right     where the lent lengths are right, the table gives what it gives where none is lent
 --   writes-onto       what is written from the first place on stands at the front, and the rest is as it came
---   refusal-short     a refusal's line is short
---   prints-by         a text that is written first of all, into a buffer that is as it came, is what is printed
+--   one-short         a line with one number is short
+--   prints-by         what is written first of all, where there is room for it, is printed
 --   one-set           one place that is set
-use Prim.Native.Char.{code}
-use Prim.Native.Nat.{ℕ, _+_, _-_, _^_, _<_, _≤_}
-use mathlib.Core.Path.{_≡_, refl, sym, ap, ap₂, _∙_}
+use Prim.Native.Nat.{ℕ, zero, suc, _+_, _-_, _^_, _<_, _≤_}
+use mathlib.Core.Path.{_≡_, refl, sym, ap, _∙_}
 use mathlib.Core.List.{List, [], _∷_, _++_}
 use native.Mathlib.Omega.{arith}
-use lib.ListN.{length, take, drop, set, length-append}
+use lib.ListN.{length, getD, take, drop, set, length-append}
 use lib.Seq.{sets-eq}
 use Rattle.kinds.specs.Edition.{edition1, Sized}
 use Rattle.kinds.specs.Decisions.{sized?}
@@ -20,16 +19,15 @@ use Rattle.kinds.specs.Lengths.{Wanted, RightLengths}
 use Rattle.kinds.specs.Refusal.{said}
 use Rattle.kinds.specs.declared.Answer.the-variants.{Done}
 use Rattle.kinds.proofs.FirstLaws.{first-none, first-skip, first-alike}
-use Rattle.text.specs.Decimal.{codes, decimal}
-use Rattle.text.proofs.DecimalLaws.{decimal-length}
 use Rattle.order.specs.Table.{orderTable}
 use Rattle.kinds.specs.Answers.{overFront}
 use Rattle.bits.proofs.PaddedLaws.{padded-part}
 use Rattle.card.specs.Card.{mostColumns, Readable, columnsOn, unreadable, ReadsAs, cardTable}
-use Rattle.lines.specs.Line.{spaced, line}
+use Rattle.lines.specs.Line.{lineEnd, line}
 use Rattle.lines.specs.Written.{RoomFor, Writes}
+use Rattle.lines.proofs.LineLaws.{ending-length}
 use Rattle.listed.specs.Listing.{listing}
-use Rattle.list.specs.Tool.{listingOf, printed, PrintsAs}
+use Rattle.list.specs.Tool.{listingOf, PrintsAs}
 use Rattle.card.specs.declared.Reading.{Reading}
 
 abbrev read : Reading → List ℕ
@@ -58,15 +56,15 @@ module _ {b : List ℕ} (d : Dec (Readable b)) (others : List (ℕ × Wanted)) (
 pub writes-onto : {w x y : List ℕ} {r : ℕ} → Writes w 0 x y r → RoomFor w 0 x → y ≡ overFront w x
 writes-onto {w} {x} wrote fits = wrote .text ∙ sets-eq w x 0 fits ∙ ap (λ (i : ℕ). w ++ drop i x) {x = 0 + length w} {y = length w} (omega arith)
 
-pub refusal-short : (x : ℕ) → x < 2 ^ 32 → length (line (codes "refused") (x ∷ [])) ≤ 19
-unfolding codes spaced
-refusal-short x small = omega (arith, decimal-length 10 x (omega arith) (omega (arith, small)), length-append (decimal x ++ []) (code "\n" ∷ []), length-append (decimal x) [])
+pub one-short : (name : List ℕ) (x : ℕ) → x < 2 ^ 32 → length (line name (x ∷ [])) ≤ length name + 12
+one-short name x small = omega (arith, length-append name (lineEnd (x ∷ [])), ending-length (x ∷ []) one)
+  where
+    one : (j : ℕ) → j < 1 → getD (x ∷ []) j 0 < 2 ^ 32
+    one zero h = small
+    one (suc j) h = absurd (omega arith)
 
-pub prints-by : {b t t' x w : List ℕ} {d : Dec (Readable b)} {r : ℕ} → Writes w 0 t t' r → w ≡ printed edition1 d → t ≡ x → length w ≤ length x
-    → PrintsAs edition1 d x t' r
-prints-by {t = t} {w = w} {r = r} writes same kept fits =
-    let end : r ≡ length w = omega (arith, writes .next) in
-    record { length-of = end ∙ ap length same; text = writes-onto writes (omega (arith, ap length kept, fits)) ∙ ap₂ overFront same kept }
+pub prints-by : {w t t' : List ℕ} {r : ℕ} → Writes w 0 t t' r → RoomFor w 0 t → PrintsAs w t t' r
+prints-by writes fits = record { length-of = omega (arith, writes .next); text = writes-onto writes fits }
 
 pub one-set : (l : List ℕ) {x : ℕ} → length l ≡ 1 → set l 0 x ≡ x ∷ []
 one-set [] h = absurd (omega arith)

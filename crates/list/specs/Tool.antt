@@ -1,5 +1,6 @@
 -- The listing as a tool.
---   refusalLine x          "a refusal prints one line, as `refused 4`"
+--   columnLine l           the line of 4, where its column and its mask are l: `refused 4 column 2 from 1` (02, R-8)
+--   refusalLine x          "a refusal prints one line": of 4 that line, of any other its number, as `refused 15`
 --   listLengths t l        the lengths of the lent text buffer t and of the place l for the length of the text, and what is wanted of them
 -- For every decision d of whether the card b is readable:
 --   listingOf d            the text for the order on the card
@@ -7,28 +8,32 @@
 --   printed e d            what the program prints for the card: the text, or the refusal's line
 --   Lists e b t t' l l' r  the tool: r is 15, or the lowest of 1 to 4 that applies; done, the text stands from the first place of t' on, the rest of t' is as it came, and l' is its length;
 --                          refused, t' is t and l' is l
---   PrintsAs e d t t' r    what is printed stands from the first place of t' on, the rest of t' is as it came, and r is its length
+--   PrintsAs w t t' r      w is printed: it stands from the first place of t' on, the rest of t' is as it came, and r is its length
 --   Prints e b t t' r      the program's text
 use Prim.Native.Nat.{ℕ}
 use mathlib.Core.Path.{_≡_}
-use mathlib.Core.List.{List, [], _∷_}
+use mathlib.Core.List.{List, [], _∷_, _++_}
 use mathlib.Core.Option.{Option, none, some}
-use lib.ListN.{length}
-use Rattle.kinds.specs.Answers.{Answers, overFront}
+use native.Mathlib.Decide.{ℕ-discrete}
+use lib.ListN.{length, getD, drop}
+use Rattle.kinds.specs.Answers.{Answers, overFront, ifHolds}
 use Rattle.kinds.specs.Edition.{Edition}
 use Rattle.kinds.specs.First.{firstOf}
-use Rattle.kinds.specs.Refusal.{numberOf, said}
+use Rattle.kinds.specs.Refusal.{numberOf, valuesOf, said}
 use Rattle.kinds.specs.declared.Answer.{Answer}
 use Rattle.kinds.specs.declared.Refusal.{Refusal}
 use Rattle.kinds.specs.Lengths.{Wanted, exactly, atLeast}
-use Rattle.text.specs.Decimal.{codes}
+use Rattle.text.specs.Decimal.{codes, decimal}
 use Rattle.card.specs.Card.{Readable, nOn, kOn, columnsOn, cardTable}
 use Rattle.lines.specs.Line.{line}
 use Rattle.listed.specs.Listing.{listing}
 use Rattle.listed.specs.Tool.{textPlaces}
 
+abbrev pub columnLine : List ℕ → List ℕ
+columnLine l = codes "refused 4 column " ++ (decimal (getD l 0 0) ++ line (codes " from") (drop 1 l))
+
 abbrev pub refusalLine : Refusal → List ℕ
-refusalLine x = line (codes "refused") (numberOf x ∷ [])
+refusalLine x = ifHolds (ℕ-discrete (numberOf x) 4) (columnLine (valuesOf x)) (line (codes "refused") (numberOf x ∷ []))
 
 abbrev pub listLengths : List ℕ → List ℕ → List (ℕ × Wanted)
 listLengths t l = (length t, atLeast textPlaces) ∷ (length l, exactly 1) ∷ []
@@ -48,9 +53,9 @@ textFor (some x) d = refusalLine x
 abbrev pub printed : {b : List ℕ} → Edition → Dec (Readable b) → List ℕ
 printed e d = textFor (firstOf (cardTable e d [])) d
 
-pub record PrintsAs (e : Edition) {b : List ℕ} (d : Dec (Readable b)) (t t' : List ℕ) (r : ℕ) : Type 0 where
-  pub length-of : r ≡ length (printed e d)
-  pub text : t' ≡ overFront (printed e d) t
+pub record PrintsAs (w t t' : List ℕ) (r : ℕ) : Type 0 where
+  pub length-of : r ≡ length w
+  pub text : t' ≡ overFront w t
 
 abbrev pub Prints : Edition → List ℕ → List ℕ → List ℕ → ℕ → Type 0
-Prints e b t t' r = (d : Dec (Readable b)) → PrintsAs e d t t' r
+Prints e b t t' r = (d : Dec (Readable b)) → PrintsAs (printed e d) t t' r

@@ -1,11 +1,14 @@
 // The listing of an order card, and what is printed for one (01, 'The order card').
+ghost use Prim.Native.Nat.{_≤_};
 ghost use mathlib.Core.List.{[], _∷_};
+ghost use lib.ListN.{length};
 ghost use Rattle.kinds.specs.Answers.{Says};
 ghost use Rattle.kinds.specs.Edition.{edition1};
 ghost use Rattle.kinds.specs.Lengths.{exactly, atLeast, RightLengths};
 ghost use Rattle.listed.specs.Tool.{textPlaces};
-ghost use Rattle.list.specs.Tool.{Lists, Prints};
+ghost use Rattle.list.specs.Tool.{columnLine, refusalLine, Lists, PrintsAs, Prints};
 use kinds::Answer;
+use kinds::Refusal;
 
 pub const ROOM: usize = listed::ROOM;
 
@@ -54,6 +57,29 @@ pub fn print(card: &[u8], text: &mut [u8; ROOM]) -> usize
         let end = &length[0..1];
         return end[0] as usize;
     };
-    let numbers = [kinds::number(refusal)];
-    lines::put_line(text, 0, b"refused", &numbers)
+    put_refusal(text, refusal)
+}
+
+fn put_refusal(text: &mut [u8], refusal: Refusal) -> usize
+    requires { ⌜ textPlaces ≤ length (now text) ⌝ }
+    ensures { λ r. ⌜ PrintsAs (refusalLine refusal) (now (text .entry)) (now (text .exit)) r ⌝ }
+{
+    match refusal {
+        Refusal::Dependent(column, mask) => put_column(text, column, mask),
+        _ => {
+            let numbers = [kinds::number(refusal)];
+            lines::put_line(text, 0, b"refused", &numbers)
+        }
+    }
+}
+
+// The line of 4.
+fn put_column(text: &mut [u8], column: u32, mask: u32) -> usize
+    requires { ⌜ textPlaces ≤ length (now text) ⌝ }
+    ensures { λ r. ⌜ PrintsAs (columnLine (column ∷ mask ∷ [])) (now (text .entry)) (now (text .exit)) r ⌝ }
+{
+    let at = lines::put_bytes(text, 0, b"refused 4 column ");
+    let end = lines::put_number(text, at, column);
+    let masks = [mask];
+    lines::put_line(text, end, b" from", &masks)
 }

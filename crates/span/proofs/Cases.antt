@@ -1,4 +1,4 @@
--- The meanings on small cases: the rows that 01's planner scans for two of its frames, and a list with masks.
+-- The meanings on small cases: the rows that 01's planner scans for two of its frames, a list with masks, and first sums.
 use Prim.Native.Nat.{ℕ}
 use mathlib.Core.Path.{_≡_, refl}
 use mathlib.Core.List.{List, [], _∷_, _++_, map}
@@ -6,6 +6,7 @@ use native.Mathlib.Decide.{ℕ-discrete}
 use lib.ListN.{length}
 use Rattle.bits.specs.Image.{image}
 use Rattle.span.specs.Scan.{keptAt, mask}
+use Rattle.span.specs.First.{firstSum}
 use Rattle.span.specs.Rows.{rows}
 
 -- the rows of P1, and then those of P3
@@ -23,3 +24,8 @@ kept-rows = refl
 masks : map (mask (3 ∷ 5 ∷ 6 ∷ 0 ∷ 4 ∷ 7 ∷ [])) (0 ∷ 1 ∷ 2 ∷ 3 ∷ 4 ∷ 5 ∷ []) ≡ 1 ∷ 2 ∷ 3 ∷ 0 ∷ 16 ∷ 17 ∷ []
 unfolding mask image ℕ-discrete
 masks = refl
+
+-- 6 is 3 and 5, though 0 comes after it; 0 alone is a sum, of nothing; 5 5 5 has two
+firsts : map firstSum ((3 ∷ 5 ∷ 6 ∷ 0 ∷ []) ∷ (1 ∷ 0 ∷ 1 ∷ []) ∷ (5 ∷ 5 ∷ 5 ∷ []) ∷ (0 ∷ []) ∷ []) ≡ 2 ∷ 1 ∷ 1 ∷ 0 ∷ []
+unfolding firstSum image ℕ-discrete
+firsts = refl

@@ -1,7 +1,9 @@
 //! `compare [SEED]`: compares the board with the model, prints a table and, last, `N passed, M failed`.
 
 use second::comparison::Comparison;
-use second::parts::{by_hand, cards, orders, plain_agrees, prices, refusals, runs, verdicts};
+use second::parts::{
+    by_hand, cards, columns, orders, plain_agrees, prices, refusals, runs, verdicts,
+};
 use std::process::ExitCode;
 use std::time::Instant;
 
@@ -20,9 +22,10 @@ fn main() -> ExitCode {
     };
     println!("seed {seed}");
     let mut comparison = Comparison::new(seed);
-    let parts: [(&str, Part); 8] = [
+    let parts: [(&str, Part); 9] = [
         ("frames tried by hand", by_hand::compare),
         ("orders", orders::compare),
+        ("dependent columns", columns::compare),
         ("refusals", refusals::compare),
         ("verdicts", verdicts::compare),
         ("runs", runs::compare),

@@ -8,8 +8,10 @@ fn main() -> io::Result<()> {
     io::stdin().read_to_end(&mut card)?;
     let mut text = vec![0; 8192];
     let mut length = [0];
-    let printed = match model::list(&card, &mut text, &mut length) {
+    let mut said = [0; 3];
+    let printed = match model::list(&card, &mut text, &mut length, &mut said) {
         0 => text[..length[0] as usize].to_vec(),
+        4 => format!("refused 4 column {} from {}\n", said[1], said[2]).into_bytes(),
         number => format!("refused {number}\n").into_bytes(),
     };
     io::stdout().write_all(&printed)

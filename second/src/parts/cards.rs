@@ -18,7 +18,7 @@ pub fn compare(c: &mut Comparison) {
     random_bytes(c);
 }
 
-fn card_of(n: u32, k: u32, columns: &[u16]) -> Vec<u8> {
+pub fn card_of(n: u32, k: u32, columns: &[u16]) -> Vec<u8> {
     let mut card = format!("{n} {k}");
     for column in columns {
         card += &format!(" {column}");
@@ -136,6 +136,10 @@ fn literal_cards(c: &mut Comparison) {
             let (answer, _, _) = c.list(card, text, length);
             c.expect(&what, answer, with_2);
         }
+        for said in [0, 1, 2, 4] {
+            let (answer, _, _, _) = c.list_saying(card, 8192, 1, said);
+            c.expect(&what, answer, with_2);
+        }
     }
 }
 
@@ -186,14 +190,15 @@ fn wrong_counts(c: &mut Comparison) {
     }
 }
 
-/// Lengths of text and of length that are wrong, with every other number too.
+/// Lengths of text, of length and of said that are wrong, with every other number too.
 fn wrong_lengths(c: &mut Comparison) {
     let texts = [0, 1, 70, 128, 4096, 8191, 8192, 8193, 10000];
     for _ in 0..60 {
         for text in texts {
             for length in [0, 1, 2, 3] {
                 let card = any_card(&mut c.random);
-                c.list(&card, text, length);
+                let said = c.random.pick(&[0, 1, 2, 3, 3, 3, 3, 4]);
+                c.list_saying(&card, text, length, said);
             }
         }
     }

@@ -2,6 +2,7 @@
 
 pub mod by_hand;
 pub mod cards;
+pub mod columns;
 pub mod orders;
 pub mod plain_agrees;
 pub mod prices;

@@ -2,7 +2,7 @@
 //! These are no calls of the board and count only where they differ.
 
 use super::runs::{spoil_state, standing};
-use crate::comparison::Comparison;
+use crate::comparison::{unsaid, Comparison};
 use crate::random::Random;
 use crate::sheets::{
     break_place, change_one, dependent_columns, other_passing, random_order, random_sizes,
@@ -16,12 +16,7 @@ pub fn compare(c: &mut Comparison) {
         let columns = columns(&mut c.random, n);
         plan(c, n, k, &columns);
         let sheet = sheet(&mut c.random, n, k, &columns);
-        let plain = plain::inspect(n, k, &columns, &sheet);
-        c.expect(
-            "plain inspector and model",
-            plain,
-            model::inspect(n, k, &columns, &sheet),
-        );
+        inspect(c, n, k, &columns, &sheet);
         mover(c, n, &columns);
         tick(c, n, k, &sheet);
     }
@@ -51,7 +46,7 @@ fn columns(random: &mut Random, n: u32) -> Vec<u16> {
 
 fn sheet(random: &mut Random, n: u32, k: u32, columns: &[u16]) -> Vec<u16> {
     let mut before = vec![0; 64];
-    if !model::sizes(n, k) || model::plan(n, k, columns, &mut before) != 0 {
+    if !model::sizes(n, k) || model::plan(n, k, columns, &mut before, &mut [0; 3]) != 0 {
         return before;
     }
     let mut sheet = match random.below(4) {
@@ -74,16 +69,35 @@ fn sheet(random: &mut Random, n: u32, k: u32, columns: &[u16]) -> Vec<u16> {
     sheet
 }
 
+/// A said, mostly of its 3 places, for plain and for model.
+fn two_saids(random: &mut Random) -> (Vec<u32>, Vec<u32>) {
+    let length = random.pick(&[3, 3, 3, 3, 3, 3, 2, 4]);
+    let said = unsaid(random, length);
+    (said.clone(), said)
+}
+
 fn plan(c: &mut Comparison, n: u32, k: u32, columns: &[u16]) {
     let length = c.random.pick(&[64, 64, 64, 63]);
     let mut by_plain = c.random.halfwords(length);
     let mut by_model = by_plain.clone();
-    let plain = plain::plan(n, k, columns, &mut by_plain);
-    let model = model::plan(n, k, columns, &mut by_model);
+    let (mut plain_said, mut model_said) = two_saids(&mut c.random);
+    let plain = plain::plan(n, k, columns, &mut by_plain, &mut plain_said);
+    let model = model::plan(n, k, columns, &mut by_model, &mut model_said);
     c.expect(
         "plain planner and model",
-        (plain, by_plain),
-        (model, by_model),
+        (plain, by_plain, plain_said),
+        (model, by_model, model_said),
+    );
+}
+
+fn inspect(c: &mut Comparison, n: u32, k: u32, columns: &[u16], sheet: &[u16]) {
+    let (mut plain_said, mut model_said) = two_saids(&mut c.random);
+    let plain = plain::inspect(n, k, columns, sheet, &mut plain_said);
+    let model = model::inspect(n, k, columns, sheet, &mut model_said);
+    c.expect(
+        "plain inspector and model",
+        (plain, plain_said),
+        (model, model_said),
     );
 }
 
@@ -91,12 +105,13 @@ fn mover(c: &mut Comparison, n: u32, columns: &[u16]) {
     let frame = c.random.words(1 << n);
     let mut by_plain = c.random.words(1 << n);
     let mut by_model = by_plain.clone();
-    let plain = plain::mover(n, columns, &frame, &mut by_plain);
-    let model = model::mover(n, columns, &frame, &mut by_model);
+    let (mut plain_said, mut model_said) = two_saids(&mut c.random);
+    let plain = plain::mover(n, columns, &frame, &mut by_plain, &mut plain_said);
+    let model = model::mover(n, columns, &frame, &mut by_model, &mut model_said);
     c.expect(
         "plain mover and model",
-        (plain, by_plain),
-        (model, by_model),
+        (plain, by_plain, plain_said),
+        (model, by_model, model_said),
     );
 }
 

@@ -1,7 +1,7 @@
 //! Wrong sizes, wrong lengths, and several things wrong at once: the lowest number that applies is given.
 
 use super::runs::{spoil_state, standing};
-use crate::comparison::{Comparison, TickCall};
+use crate::comparison::{unsaid, Comparison, TickCall};
 use crate::random::Random;
 use crate::sheets::{
     all_sizes, break_place, dependent_columns, of_read_map, other_passing, random_columns,
@@ -43,7 +43,7 @@ fn every_size(c: &mut Comparison) {
                 out: c.random.words(ports),
                 words: c.random.words(2 * frame),
                 marks: vec![0; 2 * frame],
-                said: c.random.words(3),
+                said: unsaid(&mut c.random, 3),
             };
             c.tick(&mut call);
             let frame_in = c.random.words(frame);
@@ -114,6 +114,10 @@ fn every_length(c: &mut Comparison) {
         }
         for length in lengths_near(3) {
             c.price(n, k, &sheet, length);
+            c.plan_saying(n, k, &order, 64, length);
+            c.inspect_saying(n, k, &order, &sheet, length);
+            c.mover_saying(n, &order, &frame, 1 << n, length);
+            c.inverse_saying(n, &order, n as usize, length);
         }
         for length in lengths_near(1 << n) {
             c.mover(n, &order, &cut(&frame, length), 1 << n);
@@ -267,29 +271,30 @@ fn wrong_plan(c: &mut Comparison, wrong: &[u32]) {
     let random = &mut c.random;
     let (n, k) = small_sizes(random);
     let columns = columns_with(random, n, wrong);
-    let [of_columns, of_sheet] = lengths_with(random, [n as usize, 64], wrong);
+    let [of_columns, of_sheet, of_said] = lengths_with(random, [n as usize, 64, 3], wrong);
     let (n, k) = sizes_with(random, (n, k), wrong);
-    c.plan(n, k, &cut(&columns, of_columns), of_sheet);
+    c.plan_saying(n, k, &cut(&columns, of_columns), of_sheet, of_said);
 }
 
 fn wrong_move(c: &mut Comparison, wrong: &[u32]) {
     let random = &mut c.random;
     let (n, _) = small_sizes(random);
     let columns = columns_with(random, n, wrong);
-    let rights = [n as usize, 1 << n, 1 << n];
-    let [of_columns, of_frame, of_out] = lengths_with(random, rights, wrong);
+    let rights = [n as usize, 1 << n, 1 << n, 3];
+    let [of_columns, of_frame, of_out, of_said] = lengths_with(random, rights, wrong);
     let frame = random.words(of_frame);
     let n = n_with(random, n, wrong);
-    c.mover(n, &cut(&columns, of_columns), &frame, of_out);
+    c.mover_saying(n, &cut(&columns, of_columns), &frame, of_out, of_said);
 }
 
 fn wrong_inverse(c: &mut Comparison, wrong: &[u32]) {
     let random = &mut c.random;
     let (n, _) = small_sizes(random);
     let columns = columns_with(random, n, wrong);
-    let [of_columns, of_out] = lengths_with(random, [n as usize; 2], wrong);
+    let rights = [n as usize, n as usize, 3];
+    let [of_columns, of_out, of_said] = lengths_with(random, rights, wrong);
     let n = n_with(random, n, wrong);
-    c.inverse(n, &cut(&columns, of_columns), of_out);
+    c.inverse_saying(n, &cut(&columns, of_columns), of_out, of_said);
 }
 
 fn wrong_price(c: &mut Comparison, wrong: &[u32]) {
@@ -328,9 +333,10 @@ fn wrong_inspect(c: &mut Comparison, wrong: &[u32]) {
         true => columns_with(random, n, wrong),
         false => order,
     };
-    let [of_columns, of_sheet] = lengths_with(random, [n as usize, 64], wrong);
+    let [of_columns, of_sheet, of_said] = lengths_with(random, [n as usize, 64, 3], wrong);
     let (n, k) = sizes_with(random, (n, k), wrong);
-    c.inspect(n, k, &cut(&columns, of_columns), &cut(&sheet, of_sheet));
+    let (columns, sheet) = (cut(&columns, of_columns), cut(&sheet, of_sheet));
+    c.inspect_saying(n, k, &columns, &sheet, of_said);
 }
 
 fn wrong_tick(c: &mut Comparison, wrong: &[u32]) {

@@ -1,6 +1,6 @@
 //! The run: every state, every fault with its pair, and whole series from fresh.
 
-use crate::comparison::{Comparison, TickCall};
+use crate::comparison::{unsaid, Comparison, TickCall};
 use crate::model::{apply, planned, sizes};
 use crate::random::Random;
 use crate::sheets::{
@@ -31,7 +31,7 @@ pub fn fresh(random: &mut Random, n: u32, k: u32, sheet: &[u16]) -> TickCall {
         out: random.words(ports),
         words: random.words(2 * frame),
         marks: vec![0; 2 * frame],
-        said: random.words(3),
+        said: unsaid(random, 3),
     }
 }
 
@@ -295,7 +295,7 @@ fn passed_series(c: &mut Comparison, n: u32, k: u32, order: &[u16], sheet: &[u16
         c.expect("filled marks", filled(&call), taken - handed);
         // Random content again, so that an untouched out buffer is seen.
         call.out = c.random.words(1 << k);
-        call.said = c.random.words(3);
+        call.said = unsaid(&mut c.random, 3);
     }
 }
 
@@ -317,7 +317,7 @@ fn any_series(c: &mut Comparison, n: u32, k: u32, sheet: &[u16]) {
             filled(&call) as i64,
             taken as i64 - handed as i64,
         );
-        call.said = c.random.words(3);
+        call.said = unsaid(&mut c.random, 3);
         if refused > 12 {
             return;
         }

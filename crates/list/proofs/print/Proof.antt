@@ -11,13 +11,11 @@ use Rattle.kinds.specs.Edition.{edition1}
 use Rattle.kinds.specs.First.{firstOf}
 use Rattle.kinds.specs.Refusal.{said}
 use Rattle.kinds.specs.declared.Refusal.{Refusal}
-use Rattle.text.specs.Decimal.{codes}
 use Rattle.kinds.specs.Answers.{overFront}
 use Rattle.card.specs.Card.{Readable, cardTable}
-use Rattle.lines.specs.Line.{line}
 use Rattle.listed.specs.Tool.{textPlaces}
 use Rattle.list.specs.Tool.{listLengths, textFor}
-use Rattle.list.proofs.ListLaws.{lengths-right, refusal-short, prints-by}
+use Rattle.list.proofs.ListLaws.{lengths-right}
 use Rattle.list.proofs.print.Statement.{statement}
 use Rattle.list.proofs.print.Tie as tie
 
@@ -74,31 +72,15 @@ returns c d =
       text = text ∙ ap (λ (o : Option Refusal). overFront (textFor o d) (t made)) (sym none);
     }
 
-number-requires : tie.Need-number-requires
-number-requires c κs = search needs
-
-slice-aggregate-put-line : tie.Need-slice-aggregate-put-line
-slice-aggregate-put-line c = search needs
-
-slice-aggregate-put-line-2 : tie.Need-slice-aggregate-put-line-2
-slice-aggregate-put-line-2 c = search needs
-
-put-line-requires : tie.Need-put-line-requires
-put-line-requires c κs = search needs
+put-refusal-requires : tie.Need-put-refusal-requires
+put-refusal-requires c κs = search needs
 
 returns-2 : tie.Need-returns-2
-unfolding codes
 returns-2 c d =
-    let made = c .before .before .before .before .before .before .before .before .before in
-    let number = c .before .before .before .before .number in
-    let refused = c .before .before .before .before .before .before .answer .given .1 in
-    let given = said-by made d ∙ ap said refused in
-    let short = refusal-short (number .result) (omega (arith, number .ok)) in
-    prints-by
-    (c .put-line .ensures .written (omega (arith, short, whole made, made .list .kept .1 .0)))
-    (ap (λ (m : ℕ). line (codes "refused") (m ∷ [])) (number .ensures) ∙ ap (λ (o : Option Refusal). textFor o d) (sym given))
-    (made .list .ensures d .refused _ (ap said refused) .0)
-    (omega (arith, short, whole made))
+    let made = c .before .before .before .before .before .before in
+    let refused = c .before .before .before .answer .given .1 in
+    let kept = made .list .ensures d .refused _ (ap said refused) .0 in
+    rw (said-by made d ∙ ap said refused) (rw kept at (c .put-refusal .ensures))
 
 pub print-spec : {M : Type 1} → statement M
 print-spec =
@@ -114,8 +96,5 @@ print-spec =
     shared-slice-read-result
     cast-result
     returns
-    number-requires
-    slice-aggregate-put-line
-    slice-aggregate-put-line-2
-    put-line-requires
+    put-refusal-requires
     returns-2)

@@ -36,20 +36,32 @@ def promised():
     return out
 
 
+def named(line):
+    """The definitions that a line of docs/promises/ names."""
+    out, crate = set(), None
+    for _, _, name in names_in(line):
+        if name in source.floor:
+            crate = name
+        found = [d for d in source.by_name.get(name, []) if not d.is_decision]
+        here = [d for d in found if d.crate == crate] or found
+        out |= {d.key for d in here}
+    return out
+
+
 def cited():
-    """The definitions that docs/promises/ names."""
-    out = set()
+    """The definitions that docs/promises/ names, and of each request those that it says it adds."""
+    out, adds = set(), {}
     for path in PROMISES:
         with open(path) as f:
+            request = None
             for line in f:
-                crate = None
-                for _, _, name in names_in(line):
-                    if name in source.floor:
-                        crate = name
-                    found = [d for d in source.by_name.get(name, []) if not d.is_decision]
-                    here = [d for d in found if d.crate == crate] or found
-                    out |= {d.key for d in here}
-    return out
+                heading = re.match(r"## (R-\d+)? ?", line)
+                if heading:
+                    request = heading.group(1)
+                if request and line.startswith("Adds: "):
+                    adds[request] = named(line)
+                out |= named(line)
+    return out, adds
 
 
 def reach(roots, stops, words):
@@ -148,14 +160,20 @@ def table(keys, words):
 THIRD = root("demand", "ThirdDemand")
 INSPECTS, PLANS, IS_PLANNED, RIGHT = root("inspect", "Inspects"), root("plan", "Plans"), root("construction", "IsPlanned"), root("promise", "Right")
 tools = promised()
+promises, adds = cited()
 PARTS = [
     # name, roots, what is not walked into, the most lines
     ("demand 1", tools, {IS_PLANNED, RIGHT}, None),
     ("demand 2", {root("mover", "Moves"), root("order", "Inverts"), PLANS}, {RIGHT}, None),
     ("demand 3", {THIRD}, {INSPECTS, PLANS}, 250),
-    ("all", tools | {THIRD} | cited(), set(), 900),
+    ("all", tools | {THIRD} | promises, set(), None),
 ]
 PARTS = [(name, *walk(roots, stops), most) for name, roots, stops, most in PARTS]
+# Of all of these: what each request adds, and the rest, which is 01's.
+_, everything, library, words, _ = PARTS[-1]
+PARTS.append(("01", everything - set().union(*adds.values()), library, words, 900))
+PARTS += [(request, keys, library, words, None) for request, keys in adds.items()]
+LISTED = {"demand 1", "demand 2", "demand 3"}
 
 
 def written(document):
@@ -174,7 +192,7 @@ def check(document):
         said = re.findall(rf"(?m)^\| {name} \| (\d+) \| (\d+) \|", document)
         if said != [(str(len(keys)), str(lines))]:
             yield f"{DOCUMENT} should have one row '| {name} | {len(keys)} | {lines} |', and has {said}"
-        if name == "all":
+        if name not in LISTED:
             continue
         part = re.search(rf"(?s)<!-- {name} -->\n(.*?)<!-- end -->", document)
         if not part:
@@ -202,7 +220,8 @@ if sys.argv[1:] == ["write"]:
     with open(DOCUMENT, "w") as f:
         f.write(document)
 for name, keys, library, words, _ in PARTS:
-    show(name, keys, library, words)
+    if name != "01":
+        show(name, keys, library, words)
 failed = list(check(document))
 for text in failed:
     print(f"reading: {text}")

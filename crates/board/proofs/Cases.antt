@@ -1,4 +1,4 @@
--- What C is told, in the order that board.h gives: the places of the state a, h, r; of what a tick says, whether a tick was handed out and then the two ports; and the three sums.
+-- What C is told, in the order that board.h gives: the places of the state a, h, r; of what a tick says, whether a tick was handed out, and after it what a refusal names; and the three sums.
 use Prim.Native.Nat.{ℕ}
 use mathlib.Core.Path.{_≡_, refl}
 use mathlib.Core.Bool.{true, false}

@@ -1,5 +1,3 @@
--- Laws of places, of buffers that C lends beside a tool's, and that no second answer is possible; and the places of the state.
-pub mod PlaceLaws
-pub mod BesidesLaws
+-- That no second answer is possible; and what C is told, in the order that board.h gives.
 pub mod ToolLaws
 pub mod Cases

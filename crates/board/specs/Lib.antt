@@ -1,3 +1,2 @@
 -- The tools under C names.
 pub mod Names
-pub mod Inside

@@ -9,11 +9,13 @@
 --   done-by           how no refusal meets it: the table gives none, and what is to hold does
 --   refuses, does     the same of an `Answer`
 --   answers-done      where no reason applies, a tool has done its work
+--   answers-kept      where one does, it has left everything as it came
 --   answers-same      two right answers give the same refusal, or none
 --   answers-agree     so two tools with one table were both done, or were both refused
 use mathlib.Core.Path.{_≡_, refl, sym, ap, _∙_}
 use mathlib.Core.Bool.{Bool, true, false}
 use mathlib.Core.List.{List, [], _∷_, _++_}
+use mathlib.Core.Logic.{_≢_}
 use mathlib.Core.Option.{Option, none, some}
 use Prim.Native.Nat.{ℕ}
 use native.Mathlib.Omega.{arith}
@@ -67,6 +69,10 @@ module _ {t : List Reason} {D K : Type 0} where
 
   pub answers-done : {r : Answer} → firstOf t ≡ none → Answers t (said r) D K → r ≡ Done
   answers-done {r} e a = said-same r Done (a .first-of ∙ e)
+
+  pub answers-kept : {o : Option Refusal} → Answers t o D K → firstOf t ≢ none → K
+  answers-kept {o = none} a some-applies = absurd (some-applies (sym (a .first-of)))
+  answers-kept {o = some x} a some-applies = a .refused x refl
 
 module _ {t : List Reason} {D K E L : Type 0} {o p : Option Refusal} (a : Answers t o D K) (b : Answers t p E L) where
   pub answers-same : o ≡ p

@@ -12,11 +12,12 @@
 --   Prints e b t t' r      the program's text
 use Prim.Native.Nat.{ℕ}
 use mathlib.Core.Path.{_≡_}
+use mathlib.Core.Bool.{cond}
 use mathlib.Core.List.{List, [], _∷_, _++_}
 use mathlib.Core.Option.{Option, none, some}
-use native.Mathlib.Decide.{ℕ-discrete}
+use lib.Dec.{eqb}
 use lib.ListN.{length, getD, drop}
-use Rattle.kinds.specs.Answers.{Answers, overFront, ifHolds}
+use Rattle.kinds.specs.Answers.{Answers, overFront}
 use Rattle.kinds.specs.Edition.{Edition}
 use Rattle.kinds.specs.First.{firstOf}
 use Rattle.kinds.specs.Refusal.{numberOf, valuesOf, said}
@@ -33,7 +34,7 @@ abbrev pub columnLine : List ℕ → List ℕ
 columnLine l = codes "refused 4 column " ++ (decimal (getD l 0 0) ++ line (codes " from") (drop 1 l))
 
 abbrev pub refusalLine : Refusal → List ℕ
-refusalLine x = ifHolds (ℕ-discrete (numberOf x) 4) (columnLine (valuesOf x)) (line (codes "refused") (numberOf x ∷ []))
+refusalLine x = cond (eqb (numberOf x) 4) (columnLine (valuesOf x)) (line (codes "refused") (numberOf x ∷ []))
 
 abbrev pub listLengths : List ℕ → List ℕ → List (ℕ × Wanted)
 listLengths t l = (length t, atLeast textPlaces) ∷ (length l, exactly 1) ∷ []

@@ -2,9 +2,10 @@
 --   three-places      three places are their contents
 --   three-set         all three set
 --   two-set           all but the first set
+--   first-set         the first set
 --   becomes-written   three places that were written
 --   becomes-left      places that are not three were left
-use Prim.Native.Nat.{ℕ}
+use Prim.Native.Nat.{ℕ, _≤_}
 use mathlib.Core.Path.{_≡_, refl}
 use mathlib.Core.List.{List, [], _∷_, _++_}
 use native.Mathlib.Omega.{arith}
@@ -24,6 +25,10 @@ three-set l {x} {y} {z} h = rw (← three-places l h) refl
 
 pub two-set : (l : List ℕ) (x y : ℕ) → length l ≡ 3 → set (set l 1 x) 2 y ≡ take 1 l ++ overFront (x ∷ y ∷ []) (drop 1 l)
 two-set l x y h = rw (← three-places l h) refl
+
+pub first-set : (l : List ℕ) {x : ℕ} → 1 ≤ length l → set l 0 x ≡ x ∷ drop 1 l
+first-set [] h = absurd (omega arith)
+first-set (a ∷ l) h = refl
 
 module _ {w l x : List ℕ} where
   pub becomes-written : length l ≡ 3 → x ≡ w → Becomes w l x

@@ -2,15 +2,22 @@
 use mathlib.Core.Path.{refl}
 use native.Mathlib.Omega.{arith}
 use borrow.Author.Needs.{needs}
-use Rattle.board.proofs.BesidesLaws.{besides-right, besides-wrong}
+use Rattle.kinds.specs.Edition.{edition1}
+use Rattle.kinds.specs.Decisions.{sized?}
+use Rattle.told.proofs.BesidesLaws.{besides-right, besides-sizes}
 use Rattle.board.proofs.board_price.Statement.{statement}
 use Rattle.board.proofs.board_price.Tie as tie
+
+sized-requires : tie.Need-sized-requires
+sized-requires c κs = search needs
 
 wrong-length-requires : tie.Need-wrong-length-requires
 wrong-length-requires c κs = search needs
 
 returns : tie.Need-returns
-returns c = record { tool = besides-wrong (λ right. c .before .if1 .taken (right .0)) (c .wrong-length .ensures) refl }
+returns c =
+    let start = c .before .before .before .before .before .args in
+    record { tool = besides-sizes (sized? edition1 (start .n) (start .k)) (c .before .sized .ensures) (λ right. c .before .before .if1 .taken (right .0)) (c .wrong-length .ensures) refl }
 
 price-requires : tie.Need-price-requires
 price-requires c κs = search needs
@@ -37,7 +44,7 @@ returns-2 c =
     record {
       tool =
           besides-right (omega (arith, priced .before .if1 .left), tt)
-          (priced .price .result, priced .price .ensures, rw (arm .priced .given .1) refl, rw (arm .priced .given .1) (c .before .before .put-three .ensures));
+          (priced .price .result, priced .price .ensures, rw (arm .priced .given .1) refl, rw (arm .priced .given .1) (c .before .before .put-three .ensures .three (priced .before .if1 .left)));
     }
 
 returns-3 : tie.Need-returns-3
@@ -54,6 +61,7 @@ pub board-price-spec : {M : Type 1} → statement M
 board-price-spec =
     tie.close
     (tie.spec
+    sized-requires
     wrong-length-requires
     returns
     price-requires

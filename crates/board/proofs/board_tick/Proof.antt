@@ -2,30 +2,42 @@
 use mathlib.Core.Path.{refl}
 use native.Mathlib.Omega.{arith}
 use borrow.Author.Needs.{needs}
-use Rattle.board.proofs.BesidesLaws.{besides-right, besides-wrong}
+use Rattle.kinds.specs.Edition.{edition1}
+use Rattle.kinds.specs.Decisions.{sized?}
+use Rattle.told.proofs.BesidesLaws.{besides-right, besides-sizes}
 use Rattle.board.proofs.board_tick.Statement.{statement}
 use Rattle.board.proofs.board_tick.Tie as tie
+
+sized-requires : tie.Need-sized-requires
+sized-requires c κs = search needs
 
 wrong-length-requires : tie.Need-wrong-length-requires
 wrong-length-requires c κs = search needs
 
 returns : tie.Need-returns
-returns c = record { tool = besides-wrong (λ right. c .before .if1 .taken (right .0)) (c .wrong-length .ensures) refl }
+returns c =
+    let start = c .before .before .before .before .before .before .before .before .before .before .args in
+    record { tool = besides-sizes (sized? edition1 (start .n) (start .k)) (c .before .sized .ensures) (λ right. c .before .before .if1 .taken (right .0)) (c .wrong-length .ensures) refl }
+
+sized-requires-2 : tie.Need-sized-requires-2
+sized-requires-2 c κs = search needs
 
 wrong-length-requires-2 : tie.Need-wrong-length-requires-2
 wrong-length-requires-2 c κs = search needs
 
 returns-2 : tie.Need-returns-2
-returns-2 c = record { tool = besides-wrong (λ right. c .before .if2 .taken (right .1 .0)) (c .wrong-length2 .ensures) refl }
-
-slice-read-t15 : tie.Need-slice-read-t15
-slice-read-t15 c = search needs
+returns-2 c =
+    let start = c .before .before .before .before .before .before .before .before .before .before .before .args in
+    record { tool = besides-sizes (sized? edition1 (start .n) (start .k)) (c .before .sized2 .ensures) (λ right. c .before .before .if2 .taken (right .1 .0)) (c .wrong-length2 .ensures) refl }
 
 slice-read-t17 : tie.Need-slice-read-t17
 slice-read-t17 c = search needs
 
 slice-read-t19 : tie.Need-slice-read-t19
 slice-read-t19 c = search needs
+
+slice-read-t21 : tie.Need-slice-read-t21
+slice-read-t21 c = search needs
 
 tick-requires : tie.Need-tick-requires
 tick-requires c κs = search needs
@@ -62,13 +74,15 @@ pub board-tick-spec : {M : Type 1} → statement M
 board-tick-spec =
     tie.close
     (tie.spec
+    sized-requires
     wrong-length-requires
     returns
+    sized-requires-2
     wrong-length-requires-2
     returns-2
-    slice-read-t15
     slice-read-t17
     slice-read-t19
+    slice-read-t21
     tick-requires
     report-requires
     same-length

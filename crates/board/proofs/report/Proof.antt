@@ -7,7 +7,7 @@ use native.Mathlib.Omega.{arith}
 use borrow.Author.Needs.{needs}
 use lib.ListN.{length, drop, set}
 use mir.Val.{boolByte}
-use Rattle.board.proofs.PlaceLaws.{three-places, first-set}
+use Rattle.told.proofs.PlaceLaws.{three-places, first-set}
 use Rattle.board.proofs.report.Statement.{statement}
 use Rattle.board.proofs.report.Tie as tie
 
@@ -30,11 +30,8 @@ slice-write-said c = search needs
 enum-known-answer-2 : tie.Need-enum-known-answer-2
 enum-known-answer-2 c = search needs
 
-name-ports-requires : tie.Need-name-ports-requires
-name-ports-requires c κs = search needs
-
-number-requires : tie.Need-number-requires
-number-requires c κs = search needs
+tell-refusal-requires : tie.Need-tell-refusal-requires
+tell-refusal-requires c κs = search needs
 
 same-length : tie.Need-same-length
 same-length c = search needs
@@ -48,7 +45,7 @@ returns c =
     let start = arm .before .before .before .before in
     rw (arm .answer .given .1) (record {
       number = refl;
-      state = c .before .before .put-three .ensures;
+      state = c .before .before .put-three .ensures .three (start .pre .0);
       said = told (start .args .said .now) (arm .answer .given .0 .1 .0) (omega (arith, start .pre .1));
     })
 
@@ -57,12 +54,13 @@ same-length-3 c = search needs
 
 returns-2 : tie.Need-returns-2
 returns-2 c =
-    let arm = c .before .before .before .before .before .before in
+    let arm = c .before .before .before .before .before in
     let start = arm .before .before .before .before in
+    let told = c .before .before .tell-refusal .ensures in
     rw (arm .answer2 .given .1) (record {
-      number = c .number .ensures;
+      number = told .number;
       state = sym (three-places (start .args .state .now) (start .pre .0));
-      said = c .before .before .before .name-ports .ensures;
+      said = told .places .three (start .pre .1);
     })
 
 pub report-spec : {M : Type 1} → statement M
@@ -74,8 +72,7 @@ report-spec =
     cast-said
     slice-write-said
     enum-known-answer-2
-    name-ports-requires
-    number-requires
+    tell-refusal-requires
     same-length
     same-length-2
     returns

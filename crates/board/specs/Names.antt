@@ -7,7 +7,6 @@
 --   Reports a st st' l l' r     what C is told of the run's answer a: its number r, the state st', and the places l'
 --   Buffers                what C lends the run to write in: the places of the state, the memory, the out buffer, and the places for what is said
 --   lentIn ws b            what the run is lent, where the words ws come
---   afterIn a b            what it has left, where it answered a
 --   RunsAs e n k s ws b b' r    the run: where the words ws come, the buffers b become b', and r is the number of the answer
 --   sumsAfter a l          the places l after the price tool answered a: the three sums; on a refusal, as they came
 --   PricesAs e n k s l l' r     the price: the places l become l', and r is the number of the answer
@@ -30,7 +29,7 @@ use Rattle.price.specs.declared.Priced.the-variants.{Costs, Refused as Unpriced
 use Rattle.memory.specs.Memory.{Memory}
 use Rattle.state.specs.declared.State.{State}
 use Rattle.lent.specs.Lent.{Lent}
-use Rattle.call.specs.Tool.{After, refusalOfRun, stateAfter}
+use Rattle.call.specs.Tool.{refusalOfRun, stateAfter}
 use Rattle.call.specs.declared.RunAnswer.{RunAnswer}
 use Rattle.call.specs.declared.RunAnswer.the-variants.{Done, Refused}
 use Rattle.run.specs.Tool.{Runs}
@@ -68,12 +67,9 @@ pub record Buffers : Type 0 where
 abbrev pub lentIn : List ℕ → Buffers → Lent
 lentIn ws b = record { state = stateIn (b .state); came = ws; memory = b .memory; out = b .out }
 
-abbrev pub afterIn : RunAnswer → Buffers → After
-afterIn a b = record { answer = a; memory = b .memory; out = b .out }
-
 pub record RunsAs (e : Edition) (n k : ℕ) (s ws : List ℕ) (b b' : Buffers) (r : ℕ) : Type 0 where
   pub tool : Besides (outsideSizes e n k) ((length (b .state), exactly 3) ∷ (length (b .said), exactly 3) ∷ []) r
-      ((a : RunAnswer) × Runs e n k s (lentIn ws b) (afterIn a b') × Reports a (b .state) (b' .state) (b .said) (b' .said) r) (b' ≡ b)
+      ((a : RunAnswer) × Runs e n k s (lentIn ws b) (record { answer = a; memory = b' .memory; out = b' .out }) × Reports a (b .state) (b' .state) (b .said) (b' .said) r) (b' ≡ b)
 
 abbrev pub sumsAfter : Priced → List ℕ → List ℕ
 sumsAfter (Costs p) l = sumsOf (Costs p)

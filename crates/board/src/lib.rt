@@ -13,7 +13,13 @@ use price::Priced;
 use state::State;
 
 #[no_mangle]
-pub extern "C" fn board_plan(n: u32, k: u32, columns: &[u16], sheet: &mut [u16], said: &mut [u32]) -> u32
+pub extern "C" fn board_plan(
+    n: u32,
+    k: u32,
+    columns: &[u16],
+    sheet: &mut [u16],
+    said: &mut [u32],
+) -> u32
     ensures { λ r. ⌜ AnswersAs (outsideSizes edition1 n k) (Plans edition1 n k (now (columns .entry)) (now (sheet .entry)) (now (sheet .exit)))
         (now (sheet .exit) ≡ now (sheet .entry)) (now (said .entry)) (now (said .exit)) r ⌝ }
 {
@@ -26,7 +32,13 @@ pub extern "C" fn board_plan(n: u32, k: u32, columns: &[u16], sheet: &mut [u16],
 }
 
 #[no_mangle]
-pub extern "C" fn board_inspect(n: u32, k: u32, columns: &[u16], sheet: &[u16], said: &mut [u32]) -> u32
+pub extern "C" fn board_inspect(
+    n: u32,
+    k: u32,
+    columns: &[u16],
+    sheet: &[u16],
+    said: &mut [u32],
+) -> u32
     ensures { λ r. ⌜ AnswersAs (outsideSizes edition1 n k) (Inspects edition1 n k (now (columns .entry)) (now (sheet .entry)))
         Unit (now (said .entry)) (now (said .exit)) r ⌝ }
 {
@@ -39,7 +51,13 @@ pub extern "C" fn board_inspect(n: u32, k: u32, columns: &[u16], sheet: &[u16], 
 }
 
 #[no_mangle]
-pub extern "C" fn board_move(n: u32, columns: &[u16], frame: &[u32], out: &mut [u32], said: &mut [u32]) -> u32
+pub extern "C" fn board_move(
+    n: u32,
+    columns: &[u16],
+    frame: &[u32],
+    out: &mut [u32],
+    said: &mut [u32],
+) -> u32
     ensures { λ r. ⌜ AnswersAs (outsideN edition1 n) (Moves edition1 n (now (columns .entry)) (now (frame .entry)) (now (out .entry)) (now (out .exit)))
         (now (out .exit) ≡ now (out .entry)) (now (said .entry)) (now (said .exit)) r ⌝ }
 {
@@ -131,9 +149,14 @@ pub extern "C" fn board_price(n: u32, k: u32, sheet: &[u16], sums: &mut [u32]) -
     }
 }
 
-// The length of the text is the one place of `length`. Where `said` is not three places, the listing is lent no text either: 15 and 1 come before 2.
+// The length of the text is the one place of `length`. Where `said` is not three places the answer is 2, after 15 and 1, which only the card tells: so the listing is lent a text of no places, and refuses that.
 #[no_mangle]
-pub extern "C" fn board_list(card: &[u8], text: &mut [u8], length: &mut [u32], said: &mut [u32]) -> u32
+pub extern "C" fn board_list(
+    card: &[u8],
+    text: &mut [u8],
+    length: &mut [u32],
+    said: &mut [u32],
+) -> u32
     ensures { λ r. ⌜ ListsAs edition1 (now (card .entry)) (now (text .entry)) (now (text .exit)) (now (length .entry)) (now (length .exit)) (now (said .entry)) (now (said .exit)) r ⌝ }
 {
     if said.len() != 3 {

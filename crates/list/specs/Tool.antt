@@ -1,5 +1,5 @@
 -- The listing as a tool.
---   columnLine l           the line of 4, where its column and its mask are l: `refused 4 column 2 from 1` (02, R-8)
+--   columnLine c m         the line of 4, which names column c and the mask m: `refused 4 column 2 from 1` (02, R-8)
 --   refusalLine x          "a refusal prints one line": of 4 that line, of any other its number, as `refused 15`
 --   listLengths t l        the lengths of the lent text buffer t and of the place l for the length of the text, and what is wanted of them
 -- For every decision d of whether the card b is readable:
@@ -16,7 +16,7 @@ use mathlib.Core.Bool.{cond}
 use mathlib.Core.List.{List, [], _∷_, _++_}
 use mathlib.Core.Option.{Option, none, some}
 use lib.Dec.{eqb}
-use lib.ListN.{length, getD, drop}
+use lib.ListN.{length, getD}
 use Rattle.kinds.specs.Answers.{Answers, overFront}
 use Rattle.kinds.specs.Edition.{Edition}
 use Rattle.kinds.specs.First.{firstOf}
@@ -30,11 +30,11 @@ use Rattle.lines.specs.Line.{line}
 use Rattle.listed.specs.Listing.{listing}
 use Rattle.listed.specs.Tool.{textPlaces}
 
-abbrev pub columnLine : List ℕ → List ℕ
-columnLine l = codes "refused 4 column " ++ (decimal (getD l 0 0) ++ line (codes " from") (drop 1 l))
+abbrev pub columnLine : ℕ → ℕ → List ℕ
+columnLine c m = codes "refused 4 column " ++ (decimal c ++ line (codes " from") (m ∷ []))
 
 abbrev pub refusalLine : Refusal → List ℕ
-refusalLine x = cond (eqb (numberOf x) 4) (columnLine (valuesOf x)) (line (codes "refused") (numberOf x ∷ []))
+refusalLine x = cond (eqb (numberOf x) 4) (columnLine (getD (valuesOf x) 0 0) (getD (valuesOf x) 1 0)) (line (codes "refused") (numberOf x ∷ []))
 
 abbrev pub listLengths : List ℕ → List ℕ → List (ℕ × Wanted)
 listLengths t l = (length t, atLeast textPlaces) ∷ (length l, exactly 1) ∷ []

@@ -76,7 +76,7 @@ fn put_refusal(text: &mut [u8], refusal: Refusal) -> usize
 // The line of 4.
 fn put_column(text: &mut [u8], column: u32, mask: u32) -> usize
     requires { ⌜ textPlaces ≤ length (now text) ⌝ }
-    ensures { λ r. ⌜ PrintsAs (columnLine (column ∷ mask ∷ [])) (now (text .entry)) (now (text .exit)) r ⌝ }
+    ensures { λ r. ⌜ PrintsAs (columnLine column mask) (now (text .entry)) (now (text .exit)) r ⌝ }
 {
     let at = lines::put_bytes(text, 0, b"refused 4 column ");
     let end = lines::put_number(text, at, column);

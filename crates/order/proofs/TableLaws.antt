@@ -3,14 +3,13 @@
 --   within-sizes     sizes that are not leave 2 to 4 to decide
 --   too-large        columns that are not all below 2^n give 3
 --   order-ascending  its numbers go up, so the first that applies is the lowest
---   names-first      where it gives 4, that names the first column that is a sum of earlier ones, and which earlier ones (and nothing else is so named: span's `first-only`)
 --   order-sound      none applies exactly when the sizes are right, every lent length is, and the columns are an order
 use Prim.Native.Nat.{ℕ, _^_}
 use mathlib.Core.Path.{_≡_, sym, ap, _∙_}
 use mathlib.Core.Bool.{Bool}
 use mathlib.Core.List.{List, [], _∷_}
-use mathlib.Core.Logic.{_⊎_, ⊎-elim, _↔_, _≢_}
-use mathlib.Core.Option.{none, some}
+use mathlib.Core.Logic.{_↔_}
+use mathlib.Core.Option.{none}
 use native.Mathlib.Decide.{decLt}
 use native.Mathlib.Omega.{arith}
 use lib.ListN.{length, getD}
@@ -19,17 +18,14 @@ use Rattle.kinds.specs.Answers.{Checks}
 use Rattle.kinds.specs.Reasons.{outside}
 use Rattle.kinds.specs.Lengths.{Wanted, exactly, RightLengths}
 use Rattle.kinds.specs.Decisions.{rightLengths?}
-use Rattle.kinds.specs.Refusal.{numberOf, valuesOf, said}
+use Rattle.kinds.specs.Refusal.{said}
 use Rattle.kinds.specs.declared.Answer.{Answer}
 use Rattle.kinds.specs.declared.Answer.the-variants.{Refused}
-use Rattle.kinds.specs.declared.Refusal.{Refusal}
-use Rattle.kinds.specs.declared.Refusal.the-variants.{Sizes, Dependent}
+use Rattle.kinds.specs.declared.Refusal.the-variants.{Sizes}
 use Rattle.kinds.proofs.TruthLaws.{stable}
-use Rattle.kinds.proofs.FirstLaws.{first-take, first-skip, first-none, first-exact}
+use Rattle.kinds.proofs.FirstLaws.{first-take, first-skip, first-none}
 use Rattle.bits.specs.Image.{AllBelow}
 use Rattle.span.specs.Decisions.{independent?}
-use Rattle.span.specs.First.{FirstSum}
-use Rattle.span.proofs.FirstSumLaws.{first-sum}
 use Rattle.order.specs.Order.{Order, ColumnTooLarge}
 use Rattle.order.specs.Table.{tooLarge, columnTable, orderTable}
 use Rattle.order.specs.Inside.{ChecksColumns}
@@ -51,27 +47,6 @@ module _ {S : Type 0} (sized : Dec S) (n : ℕ) (C : List ℕ) where
   pub order-ascending : (others : List (ℕ × Wanted)) → Ascending (orderTable S sized n C others)
   order-ascending others =
       ((omega arith, (omega arith, (omega arith, tt))), ((omega arith, (omega arith, tt)), ((omega arith, tt), (tt, tt))))
-
-  pub names-first : (others : List (ℕ × Wanted)) {i m : ℕ} → firstOf (orderTable S sized n C others) ≡ some (Dependent i m) → FirstSum C i m
-  names-first others {i} {m} e = ⊎-elim
-      (λ (_, at). absurd (other at (omega arith)))
-      (λ (_, after). ⊎-elim
-      (λ (_, at). absurd (other at (omega arith)))
-      (λ (_, after). ⊎-elim
-      (λ (_, at). absurd (other at (omega arith)))
-      (λ (_, after). ⊎-elim (λ (dep, at). same at (first-sum C dep)) (λ (_, never). absurd never) after)
-      after)
-      after)
-      (first-exact (orderTable S sized n C others) (Dependent i m) .0 e)
-    where
-      other : {x : Refusal} → x ≡ Dependent i m → numberOf x ≢ 4 → ⊥
-      other at not = not (ap numberOf at)
-
-      same : {j l : ℕ} → Dependent j l ≡ Dependent i m → FirstSum C j l → FirstSum C i m
-      same at f =
-          let column = ap (λ (x : Refusal). getD (valuesOf x) 0 0) at in
-          let mask = ap (λ (x : Refusal). getD (valuesOf x) 1 0) at in
-          rw (← column, ← mask) f
 
   pub order-sound : (others : List (ℕ × Wanted)) → firstOf (orderTable S sized n C others) ≡ none ↔ (S × RightLengths others × Order n C)
   order-sound others = (

@@ -6,7 +6,7 @@ ghost use Rattle.bits.specs.Image.{columns as columnsOf};
 ghost use Rattle.bits.specs.Padded.{arrayWidth, padded};
 ghost use Rattle.span.specs.Scan.{masks as masksOf};
 ghost use Rattle.span.specs.Rows.{row as rowIn, rows as rowsIn};
-ghost use Rattle.rows.specs.Listed.{keptIn, keptNumbers, unitsOf, NamesFirst};
+ghost use Rattle.rows.specs.Listed.{keptIn, FirstUnkept, keptNumbers, unitsOf};
 
 // Places of an array of columns, rows or masks.
 const WIDTH: usize = 16;
@@ -62,15 +62,15 @@ pub fn was_kept(masks: &[u16], i: usize) -> bool
     bits::two_to(i as u32) <= masks[i] as u32
 }
 
-// A number that is a sum of earlier ones: where it stands, and which earlier ones.
+// A number that is a sum of kept ones: where it stands, and its mask.
 pub struct Summed {
     pub at: u32,
     pub mask: u32,
 }
 
-// The first such number is the first that was not kept.
+// The first number that was not kept; 0 and 0 where all were. Of a dependent list it is the first that is a sum of earlier ones, and all of those were kept.
 pub fn first_sum(masks: &[u16]) -> Summed
-    ensures { λ r. ⌜ NamesFirst (now (masks .entry)) r ⌝ }
+    ensures { λ r. ⌜ FirstUnkept (now (masks .entry)) r ⌝ }
 {
     let mut j = 0;
     while j < masks.len() {

@@ -2,12 +2,9 @@
 --   first-sum           a dependent list has one
 --   first-dependent     a list that has one is dependent
 --   first-only          it has no other, and no other mask selects it from earlier numbers
---   masks-independent   numbers of which none has a mask below its own 2^j are independent
---   first-by-masks      the first number of a dependent list that has one is the first sum
 use Prim.Native.Nat.{ℕ, _^_, _≤_, _<_}
 use mathlib.Core.Path.{_≡_, sym, ap, _∙_}
 use mathlib.Core.List.{List}
-use native.Mathlib.Decide.{decLt}
 use native.Mathlib.Omega.{arith}
 use lib.ListN.{length, getD, take, drop, take-append-drop}
 use lib.Seq.{length-take-le}
@@ -17,11 +14,11 @@ use Rattle.bits.specs.Image.{image}
 use Rattle.bits.proofs.ImageLaws.{image-prefix}
 use Rattle.span.specs.Sums.{SumOf, Independent}
 use Rattle.span.specs.Decisions.{sumOf?}
-use Rattle.span.specs.Scan.{mask, masks}
+use Rattle.span.specs.Scan.{mask}
 use Rattle.span.specs.First.{firstSum, FirstSum}
 use Rattle.span.proofs.SumLaws.{independent-injective}
-use Rattle.span.proofs.ScanLaws.{SumBefore, IsKept, span-earlier, IsKept-earlier, IsKept-prefix}
-use Rattle.span.proofs.MaskLaws.{mask-sum, mask-before, mask-says, masks-at, dependent-at}
+use Rattle.span.proofs.ScanLaws.{SumBefore, span-earlier, IsKept-earlier, IsKept-prefix}
+use Rattle.span.proofs.MaskLaws.{mask-sum, mask-before, dependent-at}
 use Rattle.span.proofs.RankLaws.{all-kept-independent}
 
 module _ (vs : List ℕ) where
@@ -76,23 +73,3 @@ module _ {vs : List ℕ} {i m : ℕ} (f : FirstSum vs i m) where
       let low = mask-before vs i sum-before in
       let same = earlier-image (mask vs i) low ∙ mask-sum vs i ∙ sym (f .sum) ∙ sym (earlier-image m (f .earlier)) in
       (at, ap (mask vs) at ∙ independent-injective (take i vs) before (mask vs i) m (rw count low) (rw count (f .earlier)) same)
-
-module _ (vs : List ℕ) (i : ℕ) (all : (j : ℕ) → j < i → 2 ^ j ≤ getD (masks vs) j 0) where
-  kept-before : (j : ℕ) → j < i → j < length vs → IsKept vs j
-  kept-before j h l = mask-says vs j .1 (rw (← masks-at vs j l) (all j h))
-
-  pub masks-independent : length vs ≤ i → Independent vs
-  masks-independent end = all-kept-independent vs (λ j l. kept-before j (omega arith) l)
-
-  pub first-by-masks : ¬ Independent vs → getD (masks vs) i 0 < 2 ^ i → FirstSum vs i (getD (masks vs) i 0)
-  first-by-masks dep low = elim (decLt i (length vs)) [
-    | yes inside ↦
-        let at = masks-at vs i inside in
-        record {
-          inside = inside;
-          earlier = low;
-          sum = ap (image vs) at ∙ mask-sum vs i;
-          first = λ j h. IsKept-earlier vs j (omega arith) .0 (kept-before j h (omega arith));
-        }
-    | no end ↦ absurd (dep (masks-independent (omega arith)))
-  ]

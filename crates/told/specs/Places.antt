@@ -1,11 +1,10 @@
 -- What is written into three places. Where there are not three, they are as they came.
 --   Becomes w l l'       three places l become w
 --   Tells o l l' r       r is the number of the refusal o, or 0 where there is none, and three places l become what they are after it
---   NamesValues x l l'   three places l become what they are after the refusal x
 use Prim.Native.Nat.{ℕ}
 use mathlib.Core.Path.{_≡_}
 use mathlib.Core.List.{List}
-use mathlib.Core.Option.{Option, some}
+use mathlib.Core.Option.{Option}
 use lib.ListN.{length}
 use Rattle.kinds.specs.Refusal.{given}
 use Rattle.kinds.specs.declared.Refusal.{Refusal}
@@ -18,6 +17,3 @@ pub record Becomes (w l l' : List ℕ) : Type 0 where
 pub record Tells (o : Option Refusal) (l l' : List ℕ) (r : ℕ) : Type 0 where
   pub number : r ≡ given o
   pub places : Becomes (named o l) l l'
-
-abbrev pub NamesValues : Refusal → List ℕ → List ℕ → Type 0
-NamesValues x l l' = Becomes (named (some x) l) l l'

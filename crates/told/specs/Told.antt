@@ -2,7 +2,8 @@
 --   named o l                   the three places l after the refusal o was given, if one was: the values that it carries stand from the second place on, and the rest of l is as it came
 --   Besides before l r T K      a tool of C that is lent buffers beside those of the board's tool, whose lengths, and what they should be, are l. Where these are right, T holds: it does as the board's tool.
 --                               Where one is wrong, that is 2 as well: r is the first that applies of the reasons that come before 2, and then 2; and K holds, everything lent is as it came
---   AnswersAs before T K l l' r   such a tool that is lent three places l for the values of a refusal: r is the number of an answer that meets T, the tool's contract, and the places become what they are after it
+--   AnswersAs before T K l l' r   such a tool that is lent three places l for the values of a refusal: r is the number of an answer that meets T, the tool's contract, and l' is l after that answer. Where l is not three
+--                               places: r is the first of before that applies, else 2; K holds, everything else lent is as it came, and l' is l
 use Prim.Native.Nat.{ℕ}
 use mathlib.Core.Path.{_≡_}
 use mathlib.Core.List.{List, [], _∷_, _++_}

@@ -1,10 +1,11 @@
-// What C is told of an answer: its number, and in three places that are lent for it the values of a refusal.
+// What C is told of an answer: its number, and in three places that are lent for it the values of a refusal; and three numbers in three places.
 ghost use mathlib.Core.Path.{_≡_};
 ghost use mathlib.Core.Bool.{cond};
 ghost use mathlib.Core.List.{[], _∷_};
 ghost use mathlib.Core.Option.{some};
 ghost use Rattle.kinds.specs.Refusal.{said as saidBy};
-ghost use Rattle.told.specs.Places.{Becomes, Tells, NamesValues};
+ghost use Rattle.told.specs.Told.{named};
+ghost use Rattle.told.specs.Places.{Becomes, Tells};
 use kinds::Answer;
 use kinds::Refusal;
 
@@ -26,7 +27,7 @@ pub fn tell_refusal(refusal: Refusal, said: &mut [u32]) -> u32
 
 // The column and the mask of 4, and the two ports of 11 and 13.
 fn name_values(refusal: Refusal, said: &mut [u32])
-    ensures { λ r. ⌜ NamesValues refusal (now (said .entry)) (now (said .exit)) ⌝ }
+    ensures { λ r. ⌜ Becomes (named (some refusal) (now (said .entry))) (now (said .entry)) (now (said .exit)) ⌝ }
 {
     if said.len() != 3 {
         return;

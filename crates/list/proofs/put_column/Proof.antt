@@ -13,7 +13,6 @@ use Rattle.list.proofs.ListLaws.{one-short, prints-by}
 use Rattle.list.proofs.put_column.Statement.{statement}
 use Rattle.list.proofs.put_column.Tie as tie
 
-
 slice-aggregate-put-bytes : tie.Need-slice-aggregate-put-bytes
 slice-aggregate-put-bytes c = search needs
 

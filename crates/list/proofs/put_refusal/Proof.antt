@@ -17,7 +17,6 @@ use Rattle.list.proofs.ListLaws.{one-short, prints-by}
 use Rattle.list.proofs.put_refusal.Statement.{statement}
 use Rattle.list.proofs.put_refusal.Tie as tie
 
-
 abbrev others : List ℕ
 others = 0 ∷ 1 ∷ 2 ∷ 4 ∷ 5 ∷ 6 ∷ 7 ∷ 8 ∷ 9 ∷ 10 ∷ 11 ∷ 12 ∷ 13 ∷ 14 ∷ []
 

@@ -20,6 +20,7 @@ use Rattle.kinds.proofs.AnswerLaws.{not-both}
 use Rattle.kinds.proofs.FirstLaws.{first-nil, first-take, first-skip}
 use Rattle.span.specs.Tools.{mostScanned}
 use Rattle.span.proofs.ToolLaws.{scans-independent, scans-masks}
+use Rattle.rows.proofs.KeptLaws.{first-named}
 use Rattle.order.specs.Table.{tooLarge, dependent, columnTable}
 use Rattle.order.specs.Inside.{ChecksColumns}
 use Rattle.order.specs.declared.Checked.{Checked}
@@ -102,7 +103,7 @@ returns-4 c =
     let scanned = found .before .before in
     let dep = denied (scanned .scan-all .ensures .says) (not-true _ (found .if4 .taken)) in
     let scans = scanned .scan-all .ensures in
-    let (at, mask) = c .before .first-sum .ensures (C scanned) (omega (arith, few scanned, scans .places)) (scans-masks scans (few scanned)) dep in
+    let (at, mask) = first-named (c .before .first-sum .ensures) (C scanned) (omega (arith, few scanned, scans .places)) (scans-masks scans (few scanned)) dep in
     refuses (c .refused4 .ensures ∙ ap₂ (λ (i m : ℕ). Refused (Dependent i m)) at mask) (past-3 scanned (not-false _ (found .before .if3 .left)) (first-take _ _ dep))
 
 returns-5 : tie.Need-returns-5

@@ -14,7 +14,6 @@ use Rattle.told.proofs.PlaceLaws.{two-set, becomes-written, becomes-lef
 use Rattle.told.proofs.name_values.Statement.{statement}
 use Rattle.told.proofs.name_values.Tie as tie
 
-
 abbrev others : List ℕ
 others = 0 ∷ 1 ∷ 2 ∷ 4 ∷ 5 ∷ 6 ∷ 7 ∷ 8 ∷ 9 ∷ 11 ∷ 13 ∷ 14 ∷ []
 

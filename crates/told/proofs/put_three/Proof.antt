@@ -5,7 +5,6 @@ use Rattle.told.proofs.PlaceLaws.{three-set, becomes-written, becomes-l
 use Rattle.told.proofs.put_three.Statement.{statement}
 use Rattle.told.proofs.put_three.Tie as tie
 
-
 returns : tie.Need-returns
 returns c = becomes-left (c .if1 .taken) refl
 

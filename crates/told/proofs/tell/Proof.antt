@@ -4,7 +4,6 @@ use borrow.Author.Needs.{needs}
 use Rattle.told.proofs.tell.Statement.{statement}
 use Rattle.told.proofs.tell.Tie as tie
 
-
 enum-known-answer : tie.Need-enum-known-answer
 enum-known-answer c = search needs
 

@@ -15,9 +15,10 @@
  * Every function returns 0 or the number of a refusal, the lowest that applies, except that 15 comes before all.
  * On a refusal every buffer is as it was lent, but for the two values that 4, 11 and 13 name in said:
  * said: 3 elements, the last buffer of each function that can give one of these. On 4 the second is the first column that
- * is a sum of earlier ones, counted from 0, and the third says of which: bit j of it is 1 if column j is one of them. On
- * 11 and 13 they are the two ports of the first pair that wants one bank: the smallest first port, then the smallest
- * second. On every other answer they keep their content; the first element is board_tick's alone. Another length is 2.
+ * is a sum (exclusive or) of earlier ones, counted from 0, and the third says of which: bit j of it is 1 if column j is
+ * one of them; it is 0 for a column of 0. On 11 and 13 they are the two ports of the first pair that wants one bank: the
+ * smallest first port, then the smallest second. On every other answer they keep their content; the first element is
+ * board_tick's alone. Another length is 2.
  * On 0 the part of a buffer that is not mentioned keeps its content.
  */
 #ifndef BOARD_H

@@ -11,7 +11,6 @@ use Prim.Native.Nat.{ℕ}
 use mathlib.Core.Path.{_≡_, refl, sym, ap, _∙_}
 use mathlib.Core.Bool.{Bool, true, false, cond}
 use mathlib.Core.List.{List, [], _∷_, _++_}
-use mathlib.Core.Option.{Option}
 use lib.ListN.{length}
 use Rattle.kinds.specs.Answers.{Says}
 use Rattle.kinds.specs.Decisions.{rightLengths?}

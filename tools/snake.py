@@ -91,13 +91,33 @@ def code(line):
     return "" if line.lstrip().startswith("--") else line
 
 
+def own_crates():
+    with open("crates.txt") as f:
+        return {line.split(":")[0] for line in f if ":" in line and not line.startswith("#")}
+
+
+def of_libraries(text, own):
+    """The names that a file imports from the libraries, which keep their spelling."""
+    names = set()
+    for path, listed in re.findall(r"(?m)^\s*(?:ghost )?use ([^\s{]+)\.\{(.*?)\}", text):
+        parts = path.split(".")
+        if not (parts[0] == "Rattle" and len(parts) > 1 and parts[1] in own):
+            for name in listed.split(", "):
+                names.add(name.split(" as ")[0].strip())
+                # a field's or a case's name of the library, as in `Nat·lt`
+                names |= set(NAME.findall(name.split(" as ")[0]))
+    return names
+
+
 def declared():
     """The repository's own names: what specs/ and proofs/ define, bind or import under another name."""
     names = collections.Counter()
+    own = own_crates()
     for path in antt():
+        kept = of_libraries(open(path).read(), own)
         for line in open(path):
             for token in NAME.findall(code(line)):
-                if is_old(token) and not (is_walk(path) and not re.match(rf"\s*(?:abbrev |unfoldable |pub )*{re.escape(token)} :", line)):
+                if token not in kept and is_old(token) and not (is_walk(path) and not re.match(rf"\s*(?:abbrev |unfoldable |pub )*{re.escape(token)} :", line)):
                     names[token] += 1
     for path in glob.glob("crates/*/src/*.rt"):
         for line in open(path):
@@ -106,6 +126,11 @@ def declared():
                     if is_old(token):
                         names[token] += 1
     return names
+
+
+def for_file(text, names, own):
+    kept = of_libraries(text, own)
+    return {a: b for a, b in names.items() if a not in kept}
 
 
 def rename(text, names):
@@ -163,11 +188,12 @@ def main():
                 if names.get(n) in functions:
                     print("function:", path, n, names[n])
         return
+    own = own_crates()
     paths = antt() + glob.glob("crates/*/src/*.rt") + glob.glob("crates/*/must-fail/*.edit") + ["README.md"] + glob.glob("docs/*.md") + glob.glob("docs/promises/*.md")
     for path in paths:
         with open(path) as f:
             text = f.read()
-        new = turned(path, text, names)
+        new = turned(path, text, for_file(text, names, own))
         if new != text:
             with open(path, "w") as f:
                 f.write(new)

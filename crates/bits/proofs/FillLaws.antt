@@ -10,10 +10,10 @@ use Prim.Native.Nat.{ℕ, ◌+◌, ◌≤◌, ◌<◌}
 use mathlib.Core.Path.{◌≡◌, sym, ap, ap₂, ◌∙◌}
 use mathlib.Core.List.{List, [], ◌∷◌, ◌++◌, map}
 use native.Mathlib.Decide.{dec_lt}
-use native.Mathlib.Numerals.{add_one}
+use native.Mathlib.Numerals.{add-one}
 use native.Mathlib.Omega.{arith}
-use lib.ListN.{length, get_or, take, set, replicate, length_take, length_replicate, length_map, get_or_map, get_or_eq_default}
-use lib.Seq.{length_take_le, take_all, take_suc, get_or_take}
+use lib.ListN.{length, get_or, take, set, replicate, length-take, length-replicate, length-map, get_or-map, get_or-eq_default}
+use lib.Seq.{length-take-le, take_all, take-suc, get_or-take}
 use Rattle.bits.specs.Padded.{padded_to}
 use Rattle.bits.proofs.ImageLaws.{zeros_at}
 use Rattle.bits.proofs.PaddedLaws.{padded_unique, padded_whole, padded_snoc}
@@ -25,14 +25,14 @@ pub record Filled (m : ℕ) (l numbers : List ℕ) (j : ℕ) : Type 0 where
 module _ {m : ℕ} {l : List ℕ} (room : length l ≤ m) where
   pub fill_zeros : {j : ℕ} → ((i : ℕ) → i < j → i < length l → get_or l i 0 ≡ 0) → Filled m l (replicate m 0) j
   fill_zeros {j} zeros =
-      let size = length_take j l in
+      let size = length-take j l in
       record {
         room = room;
         front =
-            padded_unique m (take j l) (replicate m 0) (omega (arith, size)) (length_replicate {A = ℕ} m 0)
+            padded_unique m (take j l) (replicate m 0) (omega (arith, size)) (length-replicate {A = ℕ} m 0)
             (λ i. zeros_at m i ∙ sym (elim (dec_lt i (length (take j l))) [
-              | yes h ↦ get_or_take j l i 0 (omega (arith, size)) ∙ zeros i (omega (arith, size)) (omega (arith, size))
-              | no h ↦ get_or_eq_default (take j l) 0 (omega arith)
+              | yes h ↦ get_or-take j l i 0 (omega (arith, size)) ∙ zeros i (omega (arith, size)) (omega (arith, size))
+              | no h ↦ get_or-eq_default (take j l) 0 (omega arith)
             ]));
       }
 
@@ -43,8 +43,8 @@ module _ {m : ℕ} {l numbers : List ℕ} {j : ℕ} (f : Filled m l numbers j) w
   -- whatever stands for the numbers beyond the last
   one_more : (d : ℕ) {new : ℕ} → j < length l → new ≡ get_or l j d → Filled m l (set numbers j new) (j + 1)
   one_more d {new} h e =
-      let here = length_take_le j l (omega arith) in
-      let joined : take j l ++ (new ∷ []) ≡ take (j + 1) l = rw (e, add_one, take_suc l j d h) in
+      let here = length-take-le j l (omega arith) in
+      let joined : take j l ++ (new ∷ []) ≡ take (j + 1) l = rw (e, add-one, take-suc l j d h) in
       record {
         room = f.room;
         front =
@@ -64,4 +64,4 @@ module _ {m : ℕ} {l numbers : List ℕ} {j : ℕ} (f : Filled m l numbers j) w
 
 pub fill_value : (f : ℕ → ℕ) (l : List ℕ) {m : ℕ} {numbers : List ℕ} {j : ℕ} → Filled m (map f l) numbers j
     → {new : ℕ} → j < length l → new ≡ f (get_or l j 0) → Filled m (map f l) (set numbers j new) (j + 1)
-fill_value f l {j = j} i h e = one_more i (f 0) (omega (arith, length_map l f)) (e ∙ sym (get_or_map f l j 0))
+fill_value f l {j = j} i h e = one_more i (f 0) (omega (arith, length-map l f)) (e ∙ sym (get_or-map f l j 0))

@@ -30,13 +30,13 @@ use mathlib.Core.Path.{◌≡◌, refl, sym, ap, ap₂, ◌∙◌}
 use mathlib.Core.List.{List, [], ◌∷◌, ◌++◌, map}
 use mathlib.Core.Logic.{◌⊎◌, inl, inr, ⊎_elim}
 use native.Mathlib.Omega.{arith}
-use native.Mathlib.Nat.{pow_suc, div_eq_of_lt}
+use native.Mathlib.Nat.{pow-suc, div-eq_of_lt}
 use lib.Bits.{bit_xor, xor_zero_r, xor_lt, xor_self, xor_shr}
 use lib.ListN.{length, get_or, replicate}
-use lib.Arith.{lt_one}
-use lib.Pow.{pow_pos, shr_shr, field, mod_mod_pow}
+use lib.Arith.{lt-one}
+use lib.Pow.{pow_pos, shr-shr, field, mod-mod-pow}
 use lib.Seq.{ext_get_or}
-use native.Mathlib.Numerals.{add_one}
+use native.Mathlib.Numerals.{add-one}
 use Rattle.kinds.proofs.FrameLaws.{in_order_length, in_order_at, in_order_same, in_order_map}
 use Rattle.bits.specs.Image.{chosen, image, AllBelow, Linear, columns}
 use Rattle.bits.proofs.XorLaws.{even_or_odd, xor_half, xor_low, xor_swap, xor_assoc, xor_double, xor_split}
@@ -111,12 +111,12 @@ pub image_append : (cs ds : List ℕ) (x : ℕ) → image (cs ++ ds) x ≡ bit_x
 unfolding image
 image_append [] ds x = ap (image ds) (omega arith)
 image_append (c ∷ cs) ds x =
-    ap (bit_xor (chosen (x % 2) c)) (image_append cs ds (x / 2) ∙ ap (λ (y : ℕ). bit_xor (image cs (x / 2)) (image ds y)) (shr_shr x 1 (length cs) ∙ ap (λ (e : ℕ). x / 2 ^ e) (omega arith)))
+    ap (bit_xor (chosen (x % 2) c)) (image_append cs ds (x / 2) ∙ ap (λ (y : ℕ). bit_xor (image cs (x / 2)) (image ds y)) (shr-shr x 1 (length cs) ∙ ap (λ (e : ℕ). x / 2 ^ e) (omega arith)))
     ∙ sym (xor_assoc (chosen (x % 2) c) (image cs (x / 2)) (image ds (x / 2 ^ suc (length cs))))
 
 pub image_prefix : (cs ds : List ℕ) (x : ℕ) → x < 2 ^ length cs → image (cs ++ ds) x ≡ image cs x
 image_prefix cs ds x h =
-    image_append cs ds x ∙ ap (λ (q : ℕ). bit_xor (image cs x) (image ds q)) (div_eq_of_lt h)
+    image_append cs ds x ∙ ap (λ (q : ℕ). bit_xor (image cs x) (image ds q)) (div-eq_of_lt h)
     ∙ ap (bit_xor (image cs x)) (image_zero ds) ∙ xor_zero_r (image cs x)
 
 pub image_snoc : (cs : List ℕ) (c x : ℕ) → image (cs ++ (c ∷ [])) x ≡ bit_xor (image cs x) (chosen (x / 2 ^ length cs % 2) c)
@@ -127,8 +127,8 @@ pub image_mod : (cs : List ℕ) (x : ℕ) → image cs (x % 2 ^ length cs) ≡ i
 unfolding image
 image_mod [] x = refl
 image_mod (c ∷ cs) x =
-    ap (λ (e : ℕ). image (c ∷ cs) (x % 2 ^ e)) (sym (add_one (length cs)))
-    ∙ ap₂ (λ (a b : ℕ). bit_xor (chosen a c) b) (mod_mod_pow x (length cs) 1)
+    ap (λ (e : ℕ). image (c ∷ cs) (x % 2 ^ e)) (sym (add-one (length cs)))
+    ∙ ap₂ (λ (a b : ℕ). bit_xor (chosen a c) b) (mod-mod-pow x (length cs) 1)
     (ap (image cs) (field x (length cs) 1) ∙ image_mod cs (x / 2))
 
 pub linear_zero : (f : ℕ → ℕ) → Linear f → f 0 ≡ 0
@@ -170,7 +170,7 @@ columns_none f = refl
 columns_cons : (n : ℕ) (f : ℕ → ℕ) → columns (suc n) f ≡ f 1 ∷ columns n (λ x. f (2 * x))
 unfolding columns
 columns_cons n f =
-    ap (λ (l : List ℕ). f 1 ∷ l) (in_order_same n (λ j. f (2 ^ suc j)) (λ j. f (2 * 2 ^ j)) (λ j h. ap f (omega (arith, pow_suc 2 j))))
+    ap (λ (l : List ℕ). f 1 ∷ l) (in_order_same n (λ j. f (2 ^ suc j)) (λ j. f (2 * 2 ^ j)) (λ j h. ap f (omega (arith, pow-suc 2 j))))
 
 linear_double : (f : ℕ → ℕ) → Linear f → Linear (λ x. f (2 * x))
 linear_double f l x y = ap f (xor_double x y) ∙ l (2 * x) (2 * y)
@@ -180,12 +180,12 @@ low_chosen x = ⊎_elim (λ e. rw e) (λ e. rw e) (even_or_odd x)
 
 pub linear_image : (n : ℕ) (f : ℕ → ℕ) → Linear f → (x : ℕ) → x < 2 ^ n → f x ≡ image (columns n f) x
 unfolding image
-linear_image zero f l x h = ap f (lt_one h) ∙ linear_zero f l ∙ sym (ap (λ (cs : List ℕ). image cs x) (columns_none f))
+linear_image zero f l x h = ap f (lt-one h) ∙ linear_zero f l ∙ sym (ap (λ (cs : List ℕ). image cs x) (columns_none f))
 linear_image (suc n) f l x h =
     ap f (xor_split x)
     ∙ l (x % 2) (2 * (x / 2))
     ∙ ap₂ bit_xor (ap f (low_chosen x) ∙ linear_chosen f l (x % 2) 1)
-    (linear_image n (λ y. f (2 * y)) (linear_double f l) (x / 2) (omega (arith, pow_suc 2 n)))
+    (linear_image n (λ y. f (2 * y)) (linear_double f l) (x / 2) (omega (arith, pow-suc 2 n)))
     ∙ sym (ap (λ (cs : List ℕ). image cs x) (columns_cons n f))
 
 pub image_identity : (k p : ℕ) → p < 2 ^ k → image (columns k (λ p. p)) p ≡ p
@@ -211,7 +211,7 @@ linear_agree n f g l m same x b =
 
 lt_two_to : (x : ℕ) → x < 2 ^ x
 lt_two_to zero = omega arith
-lt_two_to (suc x) = omega (arith, pow_suc 2 x, lt_two_to x)
+lt_two_to (suc x) = omega (arith, pow-suc 2 x, lt_two_to x)
 
 pub same_image : (cs ds : List ℕ) → ((j : ℕ) → get_or cs j 0 ≡ get_or ds j 0) → (x : ℕ) → image cs x ≡ image ds x
 same_image cs ds same x =

@@ -17,11 +17,11 @@ use mathlib.Core.Path.{◌≡◌, refl, sym, ap, ap₂, ◌∙◌}
 use mathlib.Core.Logic.{◌≢◌}
 use native.Mathlib.Decide.{dec_le}
 use native.Mathlib.Omega.{arith}
-use native.Mathlib.Nat.{add_mod, pow_suc, mod_lt}
+use native.Mathlib.Nat.{add-mod, pow-suc, mod-lt}
 use lib.Arith.{bin_ind}
 use lib.Bits.{bit_xor, bit_and, and_comm, and_zero_r}
 use lib.Count.{ones, ones_step}
-use lib.Pow.{shr_shr, pow_pos, high, mod_pow_add, mod_mod_pow}
+use lib.Pow.{shr-shr, pow_pos, high, mod-pow-add, mod-mod-pow}
 use Rattle.bits.specs.Parity.{bit, parity, dot}
 use Rattle.bits.proofs.XorLaws.{by_halves, odd_add, xor_half, xor_low, and_half, and_low, and_xor}
 
@@ -47,7 +47,7 @@ odd_sum : (x a b p q r : ℕ) → x % 2 ≡ (a + b) % 2 → r ≡ (p + q) % 2 �
 odd_sum x a b p q r h l =
     odd_add x (a + b) r (p + q) h (omega arith)
     ∙ ap (λ (n : ℕ). n % 2) (omega arith)
-    ∙ add_mod (a + p) (b + q) 2
+    ∙ add-mod (a + p) (b + q) 2
 
 pub parity_xor : (a b : ℕ) → parity (bit_xor a b) ≡ (parity a + parity b) % 2
 parity_xor =
@@ -86,13 +86,13 @@ dot_step a b =
     ∙ odd_add (bit_and a b) (min (a % 2) (b % 2)) (dot (a / 2) (b / 2)) (dot (a / 2) (b / 2)) (omega (arith, and_low a b)) refl
 
 pub bit_suc : (j a : ℕ) → bit (suc j) a ≡ bit j (a / 2)
-bit_suc j a = ap (λ (x : ℕ). x % 2) (ap (λ (x : ℕ). a / 2 ^ x) (omega arith) ∙ sym (shr_shr a 1 j))
+bit_suc j a = ap (λ (x : ℕ). x % 2) (ap (λ (x : ℕ). a / 2 ^ x) (omega arith) ∙ sym (shr-shr a 1 j))
 
 pub unit_half : (j : ℕ) → 2 ^ suc j / 2 ≡ 2 ^ j
-unit_half j = omega (arith, pow_suc 2 j)
+unit_half j = omega (arith, pow-suc 2 j)
 
 pub unit_low : (j : ℕ) → 2 ^ suc j % 2 ≡ 0
-unit_low j = omega (arith, pow_suc 2 j)
+unit_low j = omega (arith, pow-suc 2 j)
 
 pub dot_unit : (j a : ℕ) → dot a (2 ^ j) ≡ bit j a
 dot_unit zero a = dot_step a 1 ∙ rw (dot_zero (a / 2)) (omega arith)
@@ -122,17 +122,17 @@ pub by_bits : (k : ℕ) (a b : ℕ) → a < 2 ^ k → b < 2 ^ k → ((j : ℕ) �
 by_bits zero a b ha hb h = omega arith
 by_bits (suc k) a b ha hb h =
     by_halves
-    (by_bits k (a / 2) (b / 2) (omega (arith, pow_suc 2 k)) (omega (arith, pow_suc 2 k))
+    (by_bits k (a / 2) (b / 2) (omega (arith, pow-suc 2 k)) (omega (arith, pow-suc 2 k))
     (λ j l. sym (bit_suc j a) ∙ h (suc j) (omega arith) ∙ bit_suc j b))
     (omega (arith, h 0 (omega arith)))
 
 bit_top : (j x : ℕ) → bit j x ≡ x % 2 ^ (1 + j) / 2 ^ j
-bit_top j x = sym (ap (λ (y : ℕ). y / 2 ^ j) (mod_pow_add x 1 j) ∙ high (bit j x) j (mod_lt x (pow_pos j)))
+bit_top j x = sym (ap (λ (y : ℕ). y / 2 ^ j) (mod-pow-add x 1 j) ∙ high (bit j x) j (mod-lt x (pow_pos j)))
 
 pub bit_low : (j k x : ℕ) → j < k → bit j (x % 2 ^ k) ≡ bit j x
 bit_low j k x h =
     let above : k ≡ (k - (1 + j)) + (1 + j) = omega arith in
-    bit_top j (x % 2 ^ k) ∙ ap (λ (y : ℕ). y / 2 ^ j) (rw above (mod_mod_pow x (k - (1 + j)) (1 + j))) ∙ sym (bit_top j x)
+    bit_top j (x % 2 ^ k) ∙ ap (λ (y : ℕ). y / 2 ^ j) (rw above (mod-mod-pow x (k - (1 + j)) (1 + j))) ∙ sym (bit_top j x)
 
 pub bit_high : (j k x : ℕ) → bit j (x / 2 ^ k) ≡ bit (k + j) x
-bit_high j k x = ap (λ (y : ℕ). y % 2) (shr_shr x k j)
+bit_high j k x = ap (λ (y : ℕ). y % 2) (shr-shr x k j)

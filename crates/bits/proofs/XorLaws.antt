@@ -17,7 +17,7 @@ use Prim.Native.Nat.{ℕ, zero, suc, ◌+◌, ◌*◌, ◌/◌, ◌%◌, ◌^◌
 use mathlib.Core.Path.{◌≡◌, refl, sym, ap, ap₂, ◌∙◌}
 use mathlib.Core.Logic.{◌⊎◌, inl, inr}
 use native.Mathlib.Omega.{arith}
-use native.Mathlib.Nat.{add_mod, add_assoc}
+use native.Mathlib.Nat.{add-mod, add_assoc}
 use lib.Arith.{bin_ind}
 use lib.Bits.{bit_xor, bit_and, xor_shr, and_shr, xor_add_and, xor_comm, xor_self, xor_zero_r, xor_shifted, and_step}
 
@@ -33,7 +33,7 @@ even_or_odd x = bit (x % 2) (omega arith)
     bit (suc (suc b)) h = absurd (omega arith)
 
 pub odd_add : (a b c d : ℕ) → a % 2 ≡ b % 2 → c % 2 ≡ d % 2 → (a + c) % 2 ≡ (b + d) % 2
-odd_add a b c d h l = add_mod a c 2 ∙ ap₂ (λ (x y : ℕ). (x + y) % 2) h l ∙ sym (add_mod b d 2)
+odd_add a b c d h l = add-mod a c 2 ∙ ap₂ (λ (x y : ℕ). (x + y) % 2) h l ∙ sym (add-mod b d 2)
 
 pub xor_half : (a b : ℕ) → bit_xor a b / 2 ≡ bit_xor (a / 2) (b / 2)
 xor_half a b = xor_shr a b 1

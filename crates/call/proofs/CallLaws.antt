@@ -13,7 +13,7 @@ use mathlib.Core.Bool.{Bool, false, cond}
 use mathlib.Core.List.{List, [], ◌++◌}
 use mathlib.Core.Option.{Option, none, some}
 use native.Mathlib.Omega.{arith}
-use lib.ListN.{length, get_or, length_map}
+use lib.ListN.{length, get_or, length-map}
 use Rattle.kinds.specs.Frame.{ticks}
 use Rattle.kinds.specs.First.{Reason, first_of}
 use Rattle.kinds.specs.declared.Refusal.{Refusal}
@@ -63,7 +63,7 @@ module _ (t : List Reason) (n k : ℕ) (f g : ℕ → ℕ) (st : State) (ws : Li
   call_leaving = go (first_of (t ++ faults k writes reads m.marks m.marks))
     where
       go : (o : Option Refusal) → length (call_or o n k f g st ws m).leaving ≡ cond (call_or o n k f g st ws m).handed (2 ^ k) 0
-      go none = length_map reads (λ (x : ℕ). get_or m.words x 0) ∙ reads_length n k g st
+      go none = length-map reads (λ (x : ℕ). get_or m.words x 0) ∙ reads_length n k g st
       go (some x) = refl
 
   pub call_idle : this.handed ≡ false → this.leaving ≡ []

@@ -18,11 +18,11 @@ use mathlib.Core.Path.{◌≡◌, refl, sym, ap, ap₂, ◌∙◌}
 use mathlib.Core.Bool.{Bool, true, false, cond}
 use mathlib.Core.List.{List, [], ◌∷◌}
 use mathlib.Core.Logic.{◌≢◌, ◌↔◌, inl, inr}
-use native.Mathlib.Nat.{mul_assoc, mul_add_mod_self_right}
+use native.Mathlib.Nat.{mul_assoc, mul-add-mod_self_right}
 use native.Mathlib.Omega.{arith}
 use lib.Arith.{digits_lt}
 use lib.ListN.{length, get_or}
-use lib.Pow.{pow_add, high}
+use lib.Pow.{pow-add, high}
 use Rattle.kinds.specs.Frame.{ticks, word_at, bank_of, in_order}
 use Rattle.kinds.proofs.FrameLaws.{frame_whole, in_order_length, in_order_at, in_order_is}
 use Rattle.kinds.specs.Lengths.{or_none, IsLength}
@@ -46,7 +46,7 @@ came_few (inr e) = omega (arith, e)
 half_bank : {n k : ℕ} → k ≤ n → (h x : ℕ) → bank_of k (place_in n h x) ≡ bank_of k x
 half_bank {n} {k} within h x =
     ap (λ (i : ℕ). bank_of k (i + x)) (ap (λ (i : ℕ). h * i) (sym (frame_whole within)) ∙ sym (mul_assoc h (ticks n k) (2 ^ k)))
-    ∙ mul_add_mod_self_right (h * ticks n k) (2 ^ k) x
+    ∙ mul-add-mod_self_right (h * ticks n k) (2 ^ k) x
 
 pub halves_apart : (n : ℕ) {g h x y : ℕ} → x < 2 ^ n → y < 2 ^ n → g ≢ h → place_in n g x ≢ place_in n h y
 halves_apart n {g} {h} l r differ same = differ (sym (high g n l) ∙ ap (λ (i : ℕ). i / 2 ^ n) same ∙ high h n r)
@@ -91,7 +91,7 @@ module _ (n k : ℕ) (f : ℕ → ℕ) (into : (i : ℕ) → f i < 2 ^ n) where
   pub places_below : (h c : ℕ) → h < 2 → AllBelow (2 ^ (n + 1)) (places_of n k f h c)
   places_below h c half p l =
       rw (places_at n k f h c p (rw (places_length n k f h c) at l))
-      (omega (arith, digits_lt half (into (word_at k c p)), pow_add 2 n 1))
+      (omega (arith, digits_lt half (into (word_at k c p)), pow-add 2 n 1))
 
   pub reads_below : (st : State) → AllBelow (2 ^ (n + 1)) (reads_of n k f st)
   reads_below st = go (reading (ticks n k) st)

@@ -12,11 +12,11 @@
 use Prim.Native.Nat.{ℕ, zero, suc, ◌+◌, ◌^◌, ◌<◌, ◌≤◌}
 use mathlib.Core.Path.{◌≡◌, refl, sym, ap, ap₂, subst, ◌∙◌}
 use mathlib.Core.Bool.{Bool, true, false, cond}
-use mathlib.Core.List.{List, [], ◌++◌, append_nil}
+use mathlib.Core.List.{List, [], ◌++◌, append-nil}
 use mathlib.Core.Option.{Option, none, some}
 use native.Mathlib.Omega.{arith}
 use lib.ListN.{length, drop}
-use lib.Seq.{drop_length}
+use lib.Seq.{drop-length}
 use Rattle.kinds.specs.Answers.{Says, over_front}
 use Rattle.kinds.specs.Edition.{Edition, Sized, sheet_places}
 use Rattle.kinds.specs.Frame.{ticks}
@@ -93,7 +93,7 @@ module _ (e : Edition) (n k : ℕ) (s : List ℕ) (S : List (List ℕ)) (x : Sta
   )
 
 whole_buffer : (l out : List ℕ) → length l ≡ length out → over_front l out ≡ l
-whole_buffer l out e = ap (λ (i : ℕ). l ++ drop i out) e ∙ ap (λ (r : List ℕ). l ++ r) (drop_length out) ∙ append_nil l
+whole_buffer l out e = ap (λ (i : ℕ). l ++ drop i out) e ∙ ap (λ (r : List ℕ). l ++ r) (drop-length out) ∙ append-nil l
 
 -- where a tick was handed out, its words are all that stands in the out buffer
 module _ (e : Edition) (n k : ℕ) (s : List ℕ) (b : Lent) where

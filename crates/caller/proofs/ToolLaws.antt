@@ -18,7 +18,7 @@ use mathlib.Core.List.{List}
 use mathlib.Core.Logic.{◌↔◌}
 use mathlib.Core.Option.{Option, none, some}
 use native.Mathlib.Omega.{arith}
-use lib.ListN.{length, replicate, length_replicate}
+use lib.ListN.{length, replicate, length-replicate}
 use Rattle.kinds.specs.Answers.{Says}
 use Rattle.kinds.specs.Edition.{Edition, Sized, sheet_places}
 use Rattle.kinds.specs.Frame.{ticks}
@@ -139,8 +139,8 @@ module _ {e : Edition} {n k : ℕ} {C s : List ℕ} (sized : Sized e n k) (whole
     λ right. record { over = λ R. tool_right e n k s R.calls R.out R.start sized whole formed R.room R.fresh R.series right },
     λ right. answered.1 (record {
       over = λ x S fresh series.
-          over_same (λ j h. sym (tool_seen e n k s S (buffers k) x sized whole formed (λ i l. length_replicate (2 ^ k) 0) fresh series j h))
-          (right.over (record { start = x; calls = S; out = buffers k; fresh = fresh; series = series; room = λ i l. length_replicate (2 ^ k) 0 }));
+          over_same (λ j h. sym (tool_seen e n k s S (buffers k) x sized whole formed (λ i l. length-replicate (2 ^ k) 0) fresh series j h))
+          (right.over (record { start = x; calls = S; out = buffers k; fresh = fresh; series = series; room = λ i l. length-replicate (2 ^ k) 0 }));
     }),
   )
 

@@ -15,7 +15,7 @@ use mathlib.Core.Path.{◌≡◌, refl, sym, ap, subst, ◌∙◌}
 use mathlib.Core.List.{List, [], ◌∷◌}
 use native.Mathlib.Decide.{dec_le}
 use native.Mathlib.Omega.{arith}
-use lib.ListN.{length, drop, length_append, length_drop}
+use lib.ListN.{length, drop, length-append, length-drop}
 use Rattle.kinds.specs.Decided.{both}
 use Rattle.kinds.specs.declared.Answer.{Answer}
 use Rattle.kinds.specs.declared.Answer.TheVariants.{Done, Refused}
@@ -36,12 +36,12 @@ alike e f g h i = cc
 
 pub two_places : (b : List ℕ) (at next : ℕ) {v : ℕ} → next ≤ length b → Begins (drop at b) v (drop next b) → at + 2 ≤ next
 two_places b at next {v} h g =
-    omega (arith, ap length g.bytes, length_append (decimal v) (ending (drop next b) ∷ drop next b), decimal_some v, length_drop at b, length_drop next b)
+    omega (arith, ap length g.bytes, length-append (decimal v) (ending (drop next b) ∷ drop next b), decimal_some v, length-drop at b, length-drop next b)
 
 row_places : (ns : List ℕ) → 2 * length ns ≤ length (numbers_text ns)
 unfolding numbers_text
 row_places [] = omega arith
-row_places (x ∷ xs) = omega (arith, decimal_some x, length_append (decimal x) (ending (numbers_text xs) ∷ numbers_text xs), row_places xs)
+row_places (x ∷ xs) = omega (arith, decimal_some x, length-append (decimal x) (ending (numbers_text xs) ∷ numbers_text xs), row_places xs)
 
 some_number : {b ns : List ℕ} → IsRow b ns → 1 ≤ length ns → (v : ℕ) × (rest : List ℕ) × Begins b v rest
 some_number {ns = []} r h = absurd (omega arith)
@@ -67,7 +67,7 @@ module _ {b : List ℕ} where
   no_card (no _) not = refl
 
   pub columns_few : (d : Dec (Readable b)) → length (columns_on d) ≤ most_columns
-  columns_few (yes (ns, is)) = omega (arith, is.short, ap length is.numbers.bytes, row_places ns, length_drop 2 ns)
+  columns_few (yes (ns, is)) = omega (arith, is.short, ap length is.numbers.bytes, row_places ns, length-drop 2 ns)
   columns_few (no _) = omega arith
 
   pub reads_card : {n k count : ℕ} {C columns : List ℕ} → IsCard b (n ∷ k ∷ C) → columns ≡ padded_to most_columns C → count ≡ length C

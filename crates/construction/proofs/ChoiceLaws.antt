@@ -11,7 +11,7 @@ use mathlib.Core.Path.{◌≡◌, sym, ◌∙◌}
 use mathlib.Core.List.{List}
 use native.Mathlib.Decide.{ℕ_discrete}
 use native.Mathlib.Omega.{arith}
-use lib.ListN.{length, get_or, length_map}
+use lib.ListN.{length, get_or, length-map}
 use Rattle.kinds.specs.Edition.{Edition}
 use Rattle.kinds.specs.Frame.{tick_bits}
 use Rattle.kinds.proofs.SearchLaws.{those_at, those_has}
@@ -53,7 +53,7 @@ module _ (n k : ℕ) (C : List ℕ) where
   taken = taken_on (ports_to_zero k C) (rows_p3 n k C)
 
   taken_length : length taken ≡ tick_bits n k
-  taken_length = length_map (rows_p3 n k C) (dots (ports_to_zero k C)) ∙ rows_of_length (tick_bits n k) k (P3 k C)
+  taken_length = length-map (rows_p3 n k C) (dots (ports_to_zero k C)) ∙ rows_of_length (tick_bits n k) k (P3 k C)
 
   kept_inside : AllBelow (tick_bits n k) (kept_of_p3 n k C)
   unfolding kept_of_p3

@@ -16,7 +16,7 @@ use mathlib.Core.List.{List}
 use native.Mathlib.Omega.{arith}
 use lib.Bits.{bit_xor}
 use lib.ListN.{length}
-use lib.Pow.{pow_lt, pow_pos, split, high}
+use lib.Pow.{pow-lt, pow_pos, split, high}
 use Rattle.kinds.specs.Edition.{Edition, Sized, sheet_places}
 use Rattle.kinds.specs.Frame.{ticks, tick_bits, tick_of, port_of, word_at}
 use Rattle.kinds.proofs.FrameLaws.{tick_lt, port_lt, word_lt}
@@ -55,8 +55,8 @@ with_read_layable e n k ss within range few = record {
   wiring = columns_length k (λ p. p);
   stages = few;
   used = record {
-    addresses = columns_below n (2 ^ tick_bits n k) (tick_of k) (λ j h. tick_lt within (pow_lt h));
-    wiring = columns_below k (2 ^ k) (λ p. p) (λ j h. pow_lt h);
+    addresses = columns_below n (2 ^ tick_bits n k) (tick_of k) (λ j h. tick_lt within (pow-lt h));
+    wiring = columns_below k (2 ^ k) (λ p. p) (λ j h. pow-lt h);
     stages = range;
   };
 }

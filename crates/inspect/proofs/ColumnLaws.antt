@@ -8,7 +8,7 @@ use mathlib.Core.List.{List}
 use mathlib.Core.Logic.Iff
 use mathlib.Core.Logic.{◌↔◌}
 use native.Mathlib.Decide.{ℕ_discrete}
-use lib.Pow.{pow_lt}
+use lib.Pow.{pow-lt}
 use Rattle.kinds.proofs.TruthLaws.{stable}
 use Rattle.bits.specs.Image.{Linear}
 use Rattle.bits.proofs.ImageLaws.{image_xor, image_unit, linear_agree, columns_at}
@@ -50,7 +50,7 @@ module _ {n k : ℕ} {o p : OpenSide} {W R : Side} (write : Shows n k o W) (read
 
   pub columns_tell : (¬ Differ n (cell_of k W) (cell_of k R) (place C)) ↔ Agree n k C (cell_columns n k W) R
   columns_tell = (
-    λ same j h. (at_unit j h).1 (stable (ℕ_discrete (cell_of k W (2 ^ j)) (after (2 ^ j))) (λ differ. same (2 ^ j, pow_lt h, differ))),
+    λ same j h. (at_unit j h).1 (stable (ℕ_discrete (cell_of k W (2 ^ j)) (after (2 ^ j))) (λ differ. same (2 ^ j, pow-lt h, differ))),
     λ agree (i, h, differ).
         differ (linear_agree n (cell_of k W) after (cell_linear write.used) after_linear (λ j l. (at_unit j l).0 (agree j l)) i h),
   )

@@ -19,7 +19,7 @@ use mathlib.Core.Logic.{◌≢◌}
 use mathlib.Core.Option.{Option, none, some}
 use Prim.Native.Nat.{ℕ}
 use native.Mathlib.Omega.{arith}
-use borrow.Author.Tests.{eqb_true, eq_eqb}
+use borrow.Author.Tests.{eqb-true, eq-eqb}
 use lib.Dec.{eqb}
 use Rattle.kinds.specs.Refusal.{said}
 use Rattle.kinds.specs.First.{Reason, first_of}
@@ -45,7 +45,7 @@ said_before s t Done refuses e = absurd (refuses refl)
 said_before s t (Refused x) refuses e = sym (first_before s t (sym e))
 
 pub one_length : (lent right : ℕ) → Says (eqb lent right) (RightLengths ((lent, exactly right) ∷ []))
-one_length lent right = (λ e. (eqb_true lent right e, tt), λ same. eq_eqb lent right same.0)
+one_length lent right = (λ e. (eqb-true lent right e, tt), λ same. eq-eqb lent right same.0)
 
 pub some_lengths : (fits : Bool) → (others : List (ℕ × Wanted)) × Says fits (RightLengths others)
 some_lengths true = ([], says_yes tt)

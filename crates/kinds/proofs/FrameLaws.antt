@@ -14,22 +14,22 @@
 use Prim.Native.Nat.{ℕ, zero, suc, ◌-◌, ◌*◌, ◌^◌, ◌<◌, ◌≤◌}
 use mathlib.Core.Path.{◌≡◌, refl, sym, ap, ap₂, ◌∙◌}
 use mathlib.Core.List.{List, [], ◌∷◌, ◌++◌, map}
-use native.Mathlib.Nat.{div_lt_iff_lt_mul, mod_lt}
+use native.Mathlib.Nat.{div-lt_iff_lt-mul, mod-lt}
 use native.Mathlib.Omega.{arith}
 use lib.Arith.{digits_lt}
 use lib.ListN.{length, get_or, take}
-use lib.Pow.{pow_pos, pow_add}
+use lib.Pow.{pow_pos, pow-add}
 use lib.Seq.{ext_get_or}
 use Rattle.kinds.specs.Frame.{tick_bits, ticks, tick_of, port_of, word_at, in_order}
 
 pub frame_whole : {n k : ℕ} → k ≤ n → ticks n k * 2 ^ k ≡ 2 ^ n
-frame_whole {n} {k} within = sym (pow_add 2 (tick_bits n k) k) ∙ ap (λ (i : ℕ). 2 ^ i) (omega arith)
+frame_whole {n} {k} within = sym (pow-add 2 (tick_bits n k) k) ∙ ap (λ (i : ℕ). 2 ^ i) (omega arith)
 
 pub tick_lt : {n k i : ℕ} → k ≤ n → i < 2 ^ n → tick_of k i < ticks n k
-tick_lt {k = k} within h = (div_lt_iff_lt_mul (pow_pos k)).1 (rw (frame_whole within) h)
+tick_lt {k = k} within h = (div-lt_iff_lt-mul (pow_pos k)).1 (rw (frame_whole within) h)
 
 pub port_lt : (k i : ℕ) → port_of k i < 2 ^ k
-port_lt k i = mod_lt i (pow_pos k)
+port_lt k i = mod-lt i (pow_pos k)
 
 pub word_lt : {n k c p : ℕ} → k ≤ n → c < ticks n k → p < 2 ^ k → word_at k c p < 2 ^ n
 word_lt within tick port = rw (← frame_whole within) (digits_lt tick port)

@@ -13,8 +13,8 @@ use mathlib.Core.List.{List, [], ◌∷◌, ◌++◌}
 use mathlib.Core.Logic.{◌⊎◌, inl, inr, ⊎_elim, ◌↔◌}
 use native.Mathlib.Decide.{ℕ_discrete, dec_lt}
 use native.Mathlib.Omega.{arith}
-use lib.ListN.{length, get_or, length_append, get_or_append}
-use lib.Seq.{get_or_append_seam}
+use lib.ListN.{length, get_or, length-append, get_or-append}
+use lib.Seq.{get_or-append_seam}
 use Rattle.kinds.specs.Decided.{opposite, further, some_below}
 use Rattle.kinds.specs.Search.{found, with_if, those}
 
@@ -56,17 +56,17 @@ module _ (ps : List ℕ) (n : ℕ) where
   with_old (no not) h = refl
 
   earlier_at : {l : ℕ} → l < length ps → get_or (ps ++ (n ∷ [])) l 0 ≡ get_or ps l 0
-  earlier_at {l} = get_or_append ps (n ∷ []) 0 l
+  earlier_at {l} = get_or-append ps (n ∷ []) 0 l
 
   last_at : get_or (ps ++ (n ∷ [])) (length ps) 0 ≡ n
-  last_at = get_or_append_seam ps n [] 0
+  last_at = get_or-append_seam ps n [] 0
 
   -- a number of the longer list is one of the shorter, or the last
   each_at : {l : ℕ} → l < length (ps ++ (n ∷ []))
       → ((l < length ps) × (get_or (ps ++ (n ∷ [])) l 0 ≡ get_or ps l 0)) ⊎ (get_or (ps ++ (n ∷ [])) l 0 ≡ n)
   each_at {l} h = elim (dec_lt l (length ps)) [
     | yes k ↦ inl (k, earlier_at k)
-    | no k ↦ let last : l ≡ length ps = omega (arith, length_append ps (n ∷ [])) in inr (rw last last_at)
+    | no k ↦ let last : l ≡ length ps = omega (arith, length-append ps (n ∷ [])) in inr (rw last last_at)
   ]
 
 module _ {P : ℕ → Type 0} (P? : (i : ℕ) → Dec (P i)) where
@@ -105,15 +105,15 @@ module _ {P : ℕ → Type 0} (P? : (i : ℕ) → Dec (P i)) where
       (λ i h. absurd (omega arith))
       (λ n not has i h p. elim (ℕ_discrete i n) [ yes e ↦ absurd (not (rw e at p)) | no ne ↦ has i (omega arith) p ])
       (λ n p has i h q. elim (ℕ_discrete i n) [
-        | yes e ↦ (length (those P? n), omega (arith, length_append (those P? n) (n ∷ [])), last_at (those P? n) n ∙ sym e)
-        | no ne ↦ let (l, k, e) = has i (omega arith) q in (l, omega (arith, length_append (those P? n) (n ∷ [])), earlier_at (those P? n) n k ∙ e)
+        | yes e ↦ (length (those P? n), omega (arith, length-append (those P? n) (n ∷ [])), last_at (those P? n) n ∙ sym e)
+        | no ne ↦ let (l, k, e) = has i (omega arith) q in (l, omega (arith, length-append (those P? n) (n ∷ [])), earlier_at (those P? n) n k ∙ e)
       ])
 
   pub those_ascending : (n l : ℕ) → suc l < length (those P? n) → get_or (those P? n) l 0 < get_or (those P? n) (suc l) 0
   those_ascending =
       by_steps (λ n ps. (l : ℕ) → suc l < length ps → get_or ps l 0 < get_or ps (suc l) 0) (λ l h. absurd (omega arith)) (λ n not up. up)
       (λ n p up l h.
-      let k : l < length (those P? n) = omega (arith, length_append (those P? n) (n ∷ [])) in
+      let k : l < length (those P? n) = omega (arith, length-append (those P? n) (n ∷ [])) in
       rw (earlier_at (those P? n) n k)
       (⊎_elim (λ (m, e). rw e (up l m)) (λ e. rw e (those_at n l k).0) (each_at (those P? n) n h)))
 
@@ -132,6 +132,6 @@ module _ {P : ℕ → Type 0} (P? : (i : ℕ) → Dec (P i)) where
   unfolding those
   those_count zero = refl
   those_count (suc n) = elim (P? n) [
-    | yes p ↦ rw (those_new P? n p, those_old (λ i. opposite (P? i)) n (λ not. not p), length_append) (omega (arith, those_count n))
-    | no not ↦ rw (those_old P? n not, those_new (λ i. opposite (P? i)) n not, length_append) (omega (arith, those_count n))
+    | yes p ↦ rw (those_new P? n p, those_old (λ i. opposite (P? i)) n (λ not. not p), length-append) (omega (arith, those_count n))
+    | no not ↦ rw (those_old P? n not, those_new (λ i. opposite (P? i)) n not, length-append) (omega (arith, those_count n))
   ]

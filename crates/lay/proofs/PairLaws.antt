@@ -9,8 +9,8 @@ use Prim.Native.Nat.{ℕ, zero, suc, ◌<◌, ◌^◌, min}
 use mathlib.Core.Path.{◌≡◌, refl, sym, ap, ap₂, ◌∙◌}
 use mathlib.Core.List.{List, [], ◌∷◌}
 use native.Mathlib.Omega.{arith}
-use lib.ListN.{length, get_or, length_map}
-use lib.Pow.{pow_pos, pow_lt}
+use lib.ListN.{length, get_or, length-map}
+use lib.Pow.{pow_pos, pow-lt}
 use Rattle.bits.specs.Image.{image, AllBelow}
 use Rattle.span.specs.Scan.{units}
 use Rattle.span.specs.Rows.{dots}
@@ -28,7 +28,7 @@ pairs_parts (d ∷ ds) (c ∷ cs) e =
     let rest = pairs_parts ds cs (omega arith) in (ap (λ (l : List ℕ). d ∷ l) rest.0, ap (λ (l : List ℕ). c ∷ l) rest.1)
 
 pub pairs_length : (ds cs : List ℕ) → length cs ≡ length ds → length (pairs ds cs) ≡ length ds
-pairs_length ds cs alike = sym (length_map (pairs ds cs) (λ s. s.direction)) ∙ ap length (pairs_parts ds cs alike).0
+pairs_length ds cs alike = sym (length-map (pairs ds cs) (λ s. s.direction)) ∙ ap length (pairs_parts ds cs alike).0
 
 pub pairs_least : (ds cs : List ℕ) → length (pairs ds cs) ≡ min (length ds) (length cs)
 unfolding pairs
@@ -48,7 +48,7 @@ unfolding pairs
 pairs_range k t [] js ports ticks = tt
 pairs_range k t (i ∷ is) [] ports ticks = tt
 pairs_range k t (i ∷ is) (j ∷ js) ports ticks = (
-  omega (arith, pow_pos i, pow_lt (ports 0 (omega arith)), pow_pos j, pow_lt (ticks 0 (omega arith))),
+  omega (arith, pow_pos i, pow-lt (ports 0 (omega arith)), pow_pos j, pow-lt (ticks 0 (omega arith))),
   pairs_range k t is js (λ l h. ports (suc l) (omega arith)) (λ l h. ticks (suc l) (omega arith)),
 )
 

@@ -9,7 +9,7 @@ use mathlib.Core.Path.{◌≡◌, refl, sym, ◌∙◌}
 use mathlib.Core.List.{List, []}
 use native.Mathlib.Omega.{arith}
 use native.Mathlib.Decide.{ℕ_discrete, dec_lt}
-use lib.ListN.{length, take, length_take}
+use lib.ListN.{length, take, length-take}
 use Rattle.kinds.specs.Edition.{edition1, side_places}
 use Rattle.bits.specs.Padded.{array_width, padded}
 use Rattle.bits.proofs.PaddedLaws.{padded_at, padded_part}
@@ -29,7 +29,7 @@ pub new_shows : ShowsStages (staged []) []
 new_shows = record { is = refl; few = omega arith }
 
 pub paired_shows : (ds cs : List ℕ) → ShowsStages (staged (take edition1.most_stages (pairs ds cs))) (take edition1.most_stages (pairs ds cs))
-paired_shows ds cs = record { is = refl; few = omega (arith, length_take edition1.most_stages (pairs ds cs)) }
+paired_shows ds cs = record { is = refl; few = omega (arith, length-take edition1.most_stages (pairs ds cs)) }
 
 pub lays_unique : {A W : List ℕ} {o : Stages} {ss : List Stage} {l a b : List ℕ} → ShowsStages o ss → Lays A W o l a → Lays A W o l b → a ≡ b
 lays_unique {ss = ss} {l = l} shown x y = elim (ℕ_discrete (length l) (side_places edition1)) [

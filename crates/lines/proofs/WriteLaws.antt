@@ -15,8 +15,8 @@ use mathlib.Core.Path.{◌≡◌, refl, sym, ap, ◌∙◌}
 use mathlib.Core.List.{List, [], ◌∷◌, ◌++◌}
 use native.Mathlib.Decide.{dec_le}
 use native.Mathlib.Omega.{arith}
-use lib.ListN.{length, set, length_append}
-use lib.Seq.{sets, length_sets}
+use lib.ListN.{length, set, length-append}
+use lib.Seq.{sets, length-sets}
 use Rattle.lines.specs.Written.{RoomFor, Writes, Puts}
 
 pub puts_no : {w : List ℕ} {at : ℕ} {x : List ℕ} → ¬ RoomFor w at x → Puts w at x x at
@@ -46,11 +46,11 @@ module _ {at : ℕ} {x : List ℕ} where
 
 module _ {v : List ℕ} {at : ℕ} {x y : List ℕ} {r : ℕ} (first : Writes v at x y r) where
   pub writes_length : length y ≡ length x
-  writes_length = ap length first.text ∙ length_sets x at v
+  writes_length = ap length first.text ∙ length-sets x at v
 
   pub writes_then : {w z : List ℕ} {q : ℕ} → Writes w r y z q → Writes (v ++ w) at x z q
   writes_then {w} then = record {
-    next = omega (arith, length_append v w);
+    next = omega (arith, length-append v w);
     text = then.text ∙ rw (first.next, first.text) (sym (sets_append v w x at));
   }
 
@@ -68,7 +68,7 @@ module _ {w : List ℕ} {at : ℕ} {x v : List ℕ} {r : ℕ} {y : List ℕ} (le
   left_more {u} {t} parts wrote = record {
     fits = left.fits;
     same = writes_length wrote ∙ left.same;
-    next = omega (arith, length_append u t, ap length parts);
+    next = omega (arith, length-append u t, ap length parts);
     text = rw (wrote.next, wrote.text, ← sets_append u t y r, ← parts) left.text;
   }
 

@@ -10,8 +10,8 @@ use Prim.Native.Nat.{ℕ, zero, suc, ◌+◌, ◌-◌, ◌^◌, ◌<◌, ◌≤�
 use mathlib.Core.Path.{◌≡◌, refl, sym, ap, ◌∙◌}
 use mathlib.Core.List.{List, [], ◌∷◌, ◌++◌}
 use native.Mathlib.Omega.{arith}
-use lib.ListN.{length, get_or, take, drop, set, length_append}
-use lib.Seq.{sets_eq}
+use lib.ListN.{length, get_or, take, drop, set, length-append}
+use lib.Seq.{sets-eq}
 use Rattle.kinds.specs.Edition.{edition1, Sized}
 use Rattle.kinds.specs.Decisions.{sized?}
 use Rattle.kinds.specs.First.{first_of}
@@ -54,10 +54,10 @@ module _ {b : List ℕ} (d : Dec (Readable b)) (others : List (ℕ × Wanted)) (
       (first_alike _ _ _ _ refl (λ wrong r. wrong (r.0, right), λ wrong r. wrong (r.0, tt)) refl))
 
 pub writes_onto : {w x y : List ℕ} {r : ℕ} → Writes w 0 x y r → RoomFor w 0 x → y ≡ over_front w x
-writes_onto {w} {x} wrote fits = wrote.text ∙ sets_eq w x 0 fits ∙ ap (λ (i : ℕ). w ++ drop i x) {x = 0 + length w} {y = length w} (omega arith)
+writes_onto {w} {x} wrote fits = wrote.text ∙ sets-eq w x 0 fits ∙ ap (λ (i : ℕ). w ++ drop i x) {x = 0 + length w} {y = length w} (omega arith)
 
 pub one_short : (name : List ℕ) (x : ℕ) → x < 2 ^ 32 → length (line name (x ∷ [])) ≤ length name + 12
-one_short name x small = omega (arith, length_append name (line_end (x ∷ [])), ending_length (x ∷ []) one)
+one_short name x small = omega (arith, length-append name (line_end (x ∷ [])), ending_length (x ∷ []) one)
   where
     one : (j : ℕ) → j < 1 → get_or (x ∷ []) j 0 < 2 ^ 32
     one zero h = small

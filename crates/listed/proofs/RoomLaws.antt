@@ -5,9 +5,9 @@ use Prim.Native.Nat.{ℕ, zero, suc, ◌+◌, ◌*◌, ◌^◌, ◌<◌, ◌≤�
 use mathlib.Core.Path.{◌≡◌}
 use mathlib.Core.List.{List, [], ◌∷◌, ◌++◌, flatten}
 use native.Mathlib.Decide.{ℕ_discrete, dec_lt}
-use native.Mathlib.Nat.{suc_mul}
+use native.Mathlib.Nat.{suc-mul}
 use native.Mathlib.Omega.{arith}
-use lib.ListN.{length, get_or, length_append, get_or_eq_default}
+use lib.ListN.{length, get_or, length-append, get_or-eq_default}
 use lib.Pow.{pow_pos, pow_mono}
 use Rattle.kinds.specs.Edition.{edition1, Sized}
 use Rattle.kinds.specs.Frame.{ticks, tick_bits, word_at, in_order}
@@ -75,7 +75,7 @@ found_below (no not) some = some
 pub lamps_below : (n : ℕ) (C : List ℕ) (q : ℕ) → get_or (words_as_they_leave n C) q 0 < 2 ^ n
 lamps_below n C q = elim (dec_lt q (2 ^ n)) [
   | yes h ↦ rw (in_order_at (2 ^ n) (word_at_place n C) 0 q h) (found_below (some_below (λ i. ℕ_discrete (place C i) q) (2 ^ n)) (pow_pos n))
-  | no h ↦ rw (get_or_eq_default (words_as_they_leave n C) 0 {n = q} (omega (arith, in_order_length (2 ^ n) (word_at_place n C)))) (pow_pos n)
+  | no h ↦ rw (get_or-eq_default (words_as_they_leave n C) 0 {n = q} (omega (arith, in_order_length (2 ^ n) (word_at_place n C)))) (pow_pos n)
 ]
 
 module _ (k : ℕ) (l : List ℕ) (c : ℕ) where
@@ -90,7 +90,7 @@ unfolding flatten in_order
 lines_length b zero f each = omega arith
 lines_length b (suc m) f each =
     let rest = lines_length b m (λ c. f (suc c)) (λ c h. each (suc c) (omega arith)) in
-    omega (arith, each 0 (omega arith), length_append (f 0) (flatten (in_order m (λ c. f (suc c)))), suc_mul m b)
+    omega (arith, each 0 (omega arith), length-append (f 0) (flatten (in_order m (λ c. f (suc c)))), suc-mul m b)
 
 module _ {n k : ℕ} {C : List ℕ} (sized : Sized edition1 n k) (order : Order n C) where
   abbrev lamps : List ℕ
@@ -102,7 +102,7 @@ module _ {n k : ℕ} {C : List ℕ} (sized : Sized edition1 n k) (order : Order 
       let words = words_of_tick k lamps c in
       let below = tick_below k lamps c 10000 (λ q. omega (arith, lamps_below n C q, few_words sized)) in
       let label = decimal_length 3 c (omega arith) (omega (arith, few_ticks sized)) in
-      omega (arith, line_length (decimal c ++ codes ":") words, length_append (decimal c) (codes ":"), spaced_length 4 words (omega arith) below, tick_length k lamps c)
+      omega (arith, line_length (decimal c ++ codes ":") words, length-append (decimal c) (codes ":"), spaced_length 4 words (omega arith) below, tick_length k lamps c)
 
   pub listing_fits : length (listing n k C) ≤ text_places
   unfolding codes
@@ -114,4 +114,4 @@ module _ {n k : ℕ} {C : List ℕ} (sized : Sized edition1 n k) (order : Order 
       let write_line = stage_line_law sized (codes "write") (planned_write n k C) (write_layable sized order (omega arith)) in
       let read_line = stage_line_law sized (codes "read") (planned_read n k C) (read_layable k (omega (arith, sized.most)) order edition1 (omega (arith, sized.most))) in
       let tick_lines_law = lines_length (5 + 5 * 2 ^ k) (ticks n k) (tick_line k lamps) tick_line_law in
-      omega (arith, order_line sized, length_append sizes (write ++ (read ++ out)), length_append write (read ++ out), length_append read out, whole sized, few_ticks sized, few_words sized)
+      omega (arith, order_line sized, length-append sizes (write ++ (read ++ out)), length-append write (read ++ out), length-append read out, whole sized, few_ticks sized, few_words sized)

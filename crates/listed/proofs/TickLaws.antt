@@ -8,10 +8,10 @@ use Prim.Native.Char.{code}
 use Prim.Native.Nat.{ℕ, suc, ◌+◌, ◌-◌, ◌*◌, ◌/◌, ◌^◌, ◌≤◌, ◌<◌}
 use mathlib.Core.Path.{◌≡◌, ap, ◌∙◌}
 use mathlib.Core.List.{List, [], ◌∷◌, ◌++◌, append_assoc, flatten}
-use native.Mathlib.Numerals.{add_one}
+use native.Mathlib.Numerals.{add-one}
 use native.Mathlib.Omega.{arith}
-use lib.ListN.{length, get_or, take, drop, replicate, length_take, length_drop, drop_of_length_le}
-use lib.Seq.{drop_cons, take_at, get_or_take, get_or_drop}
+use lib.ListN.{length, get_or, take, drop, replicate, length-take, length-drop, drop_of_length-le}
+use lib.Seq.{drop-cons, take_at, get_or-take, get_or-drop}
 use Rattle.kinds.specs.Frame.{in_order, word_at}
 use Rattle.kinds.proofs.FrameLaws.{in_order_length, in_order_at, in_order_is}
 use Rattle.text.specs.Decimal.{codes, decimal}
@@ -37,7 +37,7 @@ module _ (k : ℕ) (l : List ℕ) where
     lines_more : c < ticks → ticks_from c ≡ tick_line k l c ++ ticks_from (c + 1)
     unfolding flatten
     lines_more h =
-        rw (drop_cons lines c [] (omega (arith, in_order_length ticks (tick_line k l))), in_order_at ticks (tick_line k l) [] c h, add_one, flatten)
+        rw (drop-cons lines c [] (omega (arith, in_order_length ticks (tick_line k l))), in_order_at ticks (tick_line k l) [] c h, add-one, flatten)
 
     pub ticks_more : c < ticks → ticks_from c ≡ decimal c ++ (code ":" ∷ (line_end (words_of_tick k l c) ++ ticks_from (c + 1)))
     unfolding codes
@@ -45,13 +45,13 @@ module _ (k : ℕ) (l : List ℕ) where
 
     pub ticks_done : ticks ≤ c → ticks_from c ≡ []
     unfolding flatten
-    ticks_done h = rw (drop_of_length_le lines {i = c} (omega (arith, in_order_length ticks (tick_line k l))))
+    ticks_done h = rw (drop_of_length-le lines {i = c} (omega (arith, in_order_length ticks (tick_line k l))))
 
     pub tick_part_law : {start end : ℕ} → start ≡ c * 2 ^ k → end ≡ start + 2 ^ k → end ≤ length l → take (end - start) (drop start l) ≡ words_of_tick k l c
     tick_part_law {start} {end} at_tick to_next within =
         in_order_is (2 ^ k) (λ p. get_or l (word_at k c p) 0) 0 (take (end - start) (drop start l))
-        (omega (arith, length_take (end - start) (drop start l), length_drop start l))
-        (λ p h. get_or_take (end - start) (drop start l) p 0 (omega arith) ∙ get_or_drop start l p 0 ∙ ap (λ (i : ℕ). get_or l (i + p) 0) at_tick)
+        (omega (arith, length-take (end - start) (drop start l), length-drop start l))
+        (λ p h. get_or-take (end - start) (drop start l) p 0 (omega arith) ∙ get_or-drop start l p 0 ∙ ap (λ (i : ℕ). get_or l (i + p) 0) at_tick)
 
 pub counted_stages_law : (ss : List Stage) → counted_stages (padded_to 17 (length ss ∷ flat ss)) ≡ length ss ∷ flat ss
 counted_stages_law ss = take_at (length ss ∷ flat ss) (replicate (17 - suc (length (flat ss))) 0) (1 + 2 * length ss) (omega (arith, flat_length ss))

@@ -4,11 +4,11 @@
 use Prim.Native.Nat.{ℕ, suc, ◌+◌, ◌-◌, ◌*◌, ◌/◌, ◌^◌, ◌≤◌}
 use mathlib.Core.Path.{◌≡◌, sym, ap, ap₂, ◌∙◌}
 use mathlib.Core.List.{List, [], ◌∷◌, ◌++◌, flatten}
-use native.Mathlib.Nat.{mul_div_cancel}
+use native.Mathlib.Nat.{mul-div_cancel}
 use native.Mathlib.Omega.{arith}
-use lib.ListN.{length, take, drop, replicate, length_append}
+use lib.ListN.{length, take, drop, replicate, length-append}
 use lib.Pow.{pow_pos, pow_mono}
-use lib.Seq.{take_at, take_all, drop_at, drop_drop, drop_append_le, drop_append_add}
+use lib.Seq.{take_at, take_all, drop_at, drop-drop, drop-append-le, drop-append-add}
 use Rattle.kinds.specs.Edition.{edition1, Sized}
 use Rattle.kinds.specs.Frame.{ticks, in_order}
 use Rattle.kinds.proofs.FrameLaws.{frame_whole, in_order_length}
@@ -49,11 +49,11 @@ module _ {n k : ℕ} {S : Side} (layable : Layable edition1 n k S) where
     wiring_length = padded_length 5 S.wiring (omega (arith, layable.wiring))
 
     laid_length : length (laid_out edition1 S) ≡ 32
-    laid_length = omega (arith, length_append addresses (wiring ++ rest), length_append wiring rest, addresses_length, wiring_length, rest_length)
+    laid_length = omega (arith, length-append addresses (wiring ++ rest), length-append wiring rest, addresses_length, wiring_length, rest_length)
 
     laid_rest : drop 15 (laid_out edition1 S) ≡ rest
     laid_rest =
-        sym (drop_drop 5 10 (laid_out edition1 S))
+        sym (drop-drop 5 10 (laid_out edition1 S))
         ∙ ap (drop 5) (drop_at addresses (wiring ++ rest) 10 addresses_length)
         ∙ drop_at wiring rest 5 wiring_length
 
@@ -92,17 +92,17 @@ module _ {n k : ℕ} {C : List ℕ} (sized : Sized edition1 n k) (order : Order 
 
   write_rest : write_count_of (planned_sheet edition1 n k C) ≡ rest write
   write_rest =
-      ap (take 17) (drop_append_le 15 W R (omega (arith, laid_length write n_few k_few)) ∙ ap (λ (l : List ℕ). l ++ R) (laid_rest write n_few k_few))
+      ap (take 17) (drop-append-le 15 W R (omega (arith, laid_length write n_few k_few)) ∙ ap (λ (l : List ℕ). l ++ R) (laid_rest write n_few k_few))
       ∙ take_at (rest write) R 17 (rest_length write)
 
   whole : length (planned_sheet edition1 n k C) ≡ 64
-  whole = omega (arith, length_append W R, laid_length write n_few k_few, laid_length read n_few k_few)
+  whole = omega (arith, length-append W R, laid_length write n_few k_few, laid_length read n_few k_few)
 
   read_rest : read_count_of (planned_sheet edition1 n k C) ≡ rest read
   read_rest =
       let size = laid_length write n_few k_few in
       let from : drop 47 (W ++ R) ≡ rest read =
-      ap (λ (i : ℕ). drop i (W ++ R)) {x = 47} {y = length W + 15} (omega (arith, size)) ∙ drop_append_add W R 15 ∙ laid_rest read n_few k_few in
+      ap (λ (i : ℕ). drop i (W ++ R)) {x = 47} {y = length W + 15} (omega (arith, size)) ∙ drop-append-add W R 15 ∙ laid_rest read n_few k_few in
       ap (take (length (planned_sheet edition1 n k C) - 47)) from ∙ take_all (length (planned_sheet edition1 n k C) - 47) (rest read) (omega (arith, whole, rest_length read))
 
   abbrev lamps : List ℕ
@@ -112,7 +112,7 @@ module _ {n k : ℕ} {C : List ℕ} (sized : Sized edition1 n k) (order : Order 
   lamps_length = in_order_length (2 ^ n) _
 
   lamps_ticks : length lamps / 2 ^ k ≡ ticks n k
-  lamps_ticks = ap (λ (x : ℕ). x / 2 ^ k) (lamps_length ∙ sym (frame_whole within)) ∙ mul_div_cancel (ticks n k) (pow_pos k)
+  lamps_ticks = ap (λ (x : ℕ). x / 2 ^ k) (lamps_length ∙ sym (frame_whole within)) ∙ mul-div_cancel (ticks n k) (pow_pos k)
 
   pub planned_tried : Tried k (planned_sheet edition1 n k C) lamps
   planned_tried = record {

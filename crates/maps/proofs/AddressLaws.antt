@@ -8,7 +8,7 @@ use mathlib.Core.Path.{◌≡◌, refl, sym, ap, ◌∙◌}
 use mathlib.Core.List.{List, [], ◌∷◌}
 use native.Mathlib.Decide.{dec_lt, dec_le}
 use native.Mathlib.Omega.{arith}
-use lib.ListN.{length, get_or, get_or_eq_default}
+use lib.ListN.{length, get_or, get_or-eq_default}
 use lib.Pow.{pow_mono, pow_pos}
 use Rattle.kinds.specs.Decided.{both, through}
 use Rattle.kinds.specs.Frame.{tick_bits}
@@ -25,7 +25,7 @@ use Rattle.maps.proofs.OpenLaws.{shown_k}
 padded_below : (b : ℕ) (A : List ℕ) → 1 ≤ b → AllBelow b A → AllBelow b (padded A)
 padded_below b A least below j h = rw (padded_at array_width A j) (elim (dec_lt j (length A)) [
   | yes inside ↦ below j inside
-  | no beyond ↦ let none : get_or A j 0 ≡ 0 = get_or_eq_default A 0 (omega arith) in rw none least
+  | no beyond ↦ let none : get_or A j 0 ≡ 0 = get_or-eq_default A 0 (omega arith) in rw none least
 ])
 
 controls_wider : (b s t : ℕ) (ss : List Stage) → s ≤ t → EachStage (StageInRange b s) ss → EachStage (StageInRange b t) ss

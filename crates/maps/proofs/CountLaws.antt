@@ -7,7 +7,7 @@ use mathlib.Core.List.{List, map}
 use mathlib.Core.Logic.{◌≢◌}
 use native.Mathlib.Decide.{dec_lt}
 use native.Mathlib.Omega.{arith}
-use lib.ListN.{length, get_or, take, get_or_eq_default}
+use lib.ListN.{length, get_or, take, get_or-eq_default}
 use Rattle.kinds.specs.Frame.{tick_bits, in_order}
 use Rattle.kinds.proofs.FrameLaws.{in_order_take, in_order_same, in_order_map}
 use Rattle.bits.proofs.PaddedLaws.{padded_at}
@@ -41,7 +41,7 @@ module _ {n k : ℕ} {o : OpenSide} {S : Side} (h : Shows n k o S) where
   shown_count m some none few = elim (dec_lt m (length ss)) [
     | yes short ↦ omega (arith, (stage_used m short).direction.least, shown_number (2 * m), none (omega (arith, h.stages)))
     | no not_Is_short ↦ elim (dec_lt (length ss) m) [
-      | yes long ↦ absurd (some (length ss) long (shown_number (2 * length ss) ∙ get_or_eq_default (flat ss) 0 (omega (arith, flat_length ss))))
+      | yes long ↦ absurd (some (length ss) long (shown_number (2 * length ss) ∙ get_or-eq_default (flat ss) 0 (omega (arith, flat_length ss))))
       | no not_long ↦ omega arith
     ]
   ]

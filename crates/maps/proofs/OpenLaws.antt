@@ -13,7 +13,7 @@ use Prim.Native.Nat.{ℕ, ◌+◌, ◌-◌, ◌*◌, ◌/◌, ◌%◌, ◌^◌, 
 use mathlib.Core.Path.{◌≡◌, refl, sym, ap, ap₂, ◌∙◌}
 use mathlib.Core.Bool.{Bool}
 use mathlib.Core.List.{List, []}
-use native.Mathlib.Nat.{mod_eq_of_lt}
+use native.Mathlib.Nat.{mod-eq_of_lt}
 use native.Mathlib.Omega.{arith}
 use lib.ListN.{length, get_or}
 use lib.Pow.{pow_mono}
@@ -67,7 +67,7 @@ module _ {n k : ℕ} {o : OpenSide} {S : Side} (h : Shows n k o S) where
   pub whole_number : (a b c p : ℕ) → a * 2 ^ k + b ≡ cell_at k S c p → (a * 2 ^ o.k + b) % 2 ^ array_width ≡ cell_at k S c p
   whole_number a b c p e =
       let small : cell_at k S c p < 2 ^ array_width = omega (arith, cell_lt h.used h.ports c p, pow_mono h.words) in
-      ap (λ (x : ℕ). (a * 2 ^ x + b) % 2 ^ array_width) shown_k ∙ ap (λ (x : ℕ). x % 2 ^ array_width) e ∙ mod_eq_of_lt small
+      ap (λ (x : ℕ). (a * 2 ^ x + b) % 2 ^ array_width) shown_k ∙ ap (λ (x : ℕ). x % 2 ^ array_width) e ∙ mod-eq_of_lt small
 
 pub is_bank : (o : OpenSide) (c p : ℕ) {wired r : ℕ} → wired ≡ image o.wiring p → r ≡ bank_after (stages_from o.stages) c wired → IsBank o c p r
 is_bank o c p wired_is e n k S h =

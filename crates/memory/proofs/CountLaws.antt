@@ -7,10 +7,10 @@ use mathlib.Core.Path.{◌≡◌, refl, sym, ap, ◌∙◌}
 use mathlib.Core.List.{List, [], ◌∷◌}
 use mathlib.Core.Logic.{◌≢◌}
 use native.Mathlib.Decide.{ℕ_discrete}
-use native.Mathlib.Nat.{suc_mul}
+use native.Mathlib.Nat.{suc-mul}
 use native.Mathlib.Omega.{arith}
-use lib.ListN.{length, get_or, set, length_set}
-use lib.Seq.{get_or_set_same, get_or_set_other}
+use lib.ListN.{length, get_or, set, length-set}
+use lib.Seq.{get_or-set_same, get_or-set_other}
 use Rattle.kinds.proofs.TruthLaws.{stable}
 use Rattle.bits.specs.Image.{AllBelow}
 use Rattle.faults.specs.Marks.{put, with_marks}
@@ -41,9 +41,9 @@ unfolding put
 put_in [] vs l different inside each p h = absurd (omega arith)
 put_in (x ∷ cs) [] l different inside each p h = absurd (omega arith)
 put_in (x ∷ cs) (v ∷ vs) l different inside each zero h =
-    put_other cs vs (set l x v) x (λ p b same. different 0 (suc p) (omega arith) (omega arith) (sym same)) ∙ get_or_set_same l x v 0 (inside 0 (omega arith))
+    put_other cs vs (set l x v) x (λ p b same. different 0 (suc p) (omega arith) (omega arith) (sym same)) ∙ get_or-set_same l x v 0 (inside 0 (omega arith))
 put_in (x ∷ cs) (v ∷ vs) l different inside each (suc p) h =
-    put_in cs vs (set l x v) (λ i j b e. different (suc i) (suc j) (omega arith) (omega arith)) (λ i b. rw length_set (inside (suc i) (omega arith))) (omega arith) p
+    put_in cs vs (set l x v) (λ i j b e. different (suc i) (suc j) (omega arith) (omega arith)) (λ i b. rw length-set (inside (suc i) (omega arith))) (omega arith) p
     (omega arith)
 
 marks_changed : (u v : ℕ) (cs l : List ℕ) → Different cs → AllBelow (length l) cs
@@ -54,15 +54,15 @@ marks_changed u v [] l different inside old = omega arith
 marks_changed u v (x ∷ cs) l different inside old =
     omega (
       arith,
-      marks_changed u v cs (set l x v) (λ p q b h. different (suc p) (suc q) (omega arith) (omega arith)) (λ p h. rw length_set (inside (suc p) (omega arith))) still,
+      marks_changed u v cs (set l x v) (λ p q b h. different (suc p) (suc q) (omega arith) (omega arith)) (λ p h. rw length-set (inside (suc p) (omega arith))) still,
       set_filled l x v (inside 0 (omega arith)),
       old 0 (omega arith),
-      suc_mul (length cs) u,
-      suc_mul (length cs) (filled_marks (v ∷ [])),
+      suc-mul (length cs) u,
+      suc-mul (length cs) (filled_marks (v ∷ [])),
     )
   where
     still : (p : ℕ) → p < length cs → filled_marks (get_or (set l x v) (get_or cs p 0) 0 ∷ []) ≡ u
-    still p h = rw (get_or_set_other l x (get_or cs p 0) v 0 (λ e. different 0 (suc p) (omega arith) (omega arith) (sym e))) (old (suc p) (omega arith))
+    still p h = rw (get_or-set_other l x (get_or cs p 0) v 0 (λ e. different 0 (suc p) (omega arith) (omega arith) (sym e))) (old (suc p) (omega arith))
 
 mark_of : (v : ℕ) → v ≢ 0 → filled_marks (v ∷ []) ≡ 1
 unfolding filled_marks

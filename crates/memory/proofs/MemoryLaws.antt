@@ -8,10 +8,10 @@
 use Prim.Native.Nat.{ℕ, zero, suc, ◌+◌, ◌≤◌, ◌<◌}
 use mathlib.Core.Path.{◌≡◌, refl, sym, ap, ◌∙◌}
 use mathlib.Core.List.{List, [], ◌∷◌}
-use native.Mathlib.Numerals.{add_one}
+use native.Mathlib.Numerals.{add-one}
 use native.Mathlib.Omega.{arith}
-use lib.ListN.{length, get_or, set, drop, replicate, length_set, length_replicate, get_or_replicate, drop_of_length_le}
-use lib.Seq.{drop_cons}
+use lib.ListN.{length, get_or, set, drop, replicate, length-set, length-replicate, get_or-replicate, drop_of_length-le}
+use lib.Seq.{drop-cons}
 use Rattle.faults.specs.Marks.{put}
 use Rattle.faults.proofs.MarkLaws.{put_nil, put_cons}
 use Rattle.memory.specs.Memory.{Memory, words_at}
@@ -26,7 +26,7 @@ words_at_law (x ∷ cs) l (suc p) h = words_at_law cs l p (omega arith)
 
 put_step : (cs vs l : List ℕ) (p : ℕ) → p < length cs → p < length vs
     → put (drop p cs) (drop p vs) l ≡ put (drop (p + 1) cs) (drop (p + 1) vs) (set l (get_or cs p 0) (get_or vs p 0))
-put_step cs vs l p h k = rw (add_one p, drop_cons cs p 0, drop_cons vs p 0, put_cons)
+put_step cs vs l p h k = rw (add-one p, drop-cons cs p 0, drop-cons vs p 0, put_cons)
 
 pub record Putting (cs vs l₀ l : List ℕ) (p : ℕ) : Type 0 where
   pub one_each : length vs ≡ length cs
@@ -40,18 +40,18 @@ module _ {cs vs l₀ l : List ℕ} {p : ℕ} (i : Putting cs vs l₀ l p) where
   pub put_more : p < length cs → Putting cs vs l₀ (set l (get_or cs p 0) (get_or vs p 0)) (p + 1)
   put_more h = record {
     one_each = i.one_each;
-    same = length_set l (get_or cs p 0) (get_or vs p 0) ∙ i.same;
+    same = length-set l (get_or cs p 0) (get_or vs p 0) ∙ i.same;
     rest = sym (put_step cs vs l p h (omega (arith, i.one_each))) ∙ i.rest;
   }
 
   pub put_done : length cs ≤ p → l ≡ put cs vs l₀
-  put_done h = sym (ap (λ (x : List ℕ). put x (drop p vs) l) (drop_of_length_le cs h) ∙ put_nil (drop p vs) l) ∙ i.rest
+  put_done h = sym (ap (λ (x : List ℕ). put x (drop p vs) l) (drop_of_length-le cs h) ∙ put_nil (drop p vs) l) ∙ i.rest
 
 abbrev pub Marking : ℕ → List ℕ → List ℕ → List ℕ → ℕ → Type 0
 Marking v cs l₀ l p = Putting cs (replicate (length cs) v) l₀ l p
 
 pub mark_start : (v : ℕ) {cs l : List ℕ} → Marking v cs l l 0
-mark_start v {cs} = put_start (length_replicate (length cs) v)
+mark_start v {cs} = put_start (length-replicate (length cs) v)
 
 pub mark_more : (v : ℕ) {cs l₀ l : List ℕ} {p : ℕ} → Marking v cs l₀ l p → p < length cs → Marking v cs l₀ (set l (get_or cs p 0) v) (p + 1)
-mark_more v {cs} {p = p} i h = rw (get_or_replicate (length cs) p v 0 h) at (put_more i h)
+mark_more v {cs} {p = p} i h = rw (get_or-replicate (length cs) p v 0 h) at (put_more i h)

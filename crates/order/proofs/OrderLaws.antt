@@ -12,7 +12,7 @@ use Prim.Native.Nat.{ℕ, ◌^◌, ◌<◌}
 use mathlib.Core.Path.{◌≡◌, refl, sym, ap, ◌∙◌}
 use mathlib.Core.List.{List}
 use lib.ListN.{length, get_or}
-use lib.Pow.{pow_lt}
+use lib.Pow.{pow-lt}
 use lib.Seq.{ext_get_or}
 use Rattle.bits.proofs.ImageLaws.{image_zero, image_xor, image_unit, image_lt, linear_agree}
 use Rattle.span.specs.Maps.{Bijection}
@@ -57,7 +57,7 @@ undoes_columns {n} {C} {D} o count leaves = record {
 module _ {n : ℕ} {C D : List ℕ} (o : Order n C) (u : Undoes n C D) where
   pub undoes_leaves : (b : ℕ) → b < n → LeavesAt n C (2 ^ b) (get_or D b 0)
   undoes_leaves b h =
-      let x = (order_bijection o).onto (2 ^ b) (pow_lt h) in
+      let x = (order_bijection o).onto (2 ^ b) (pow-lt h) in
       let is : get_or D b 0 ≡ x.0 = sym (image_unit D b) ∙ ap (place D) (sym x.2) ∙ u.home x.0 x.1 in
       rw is (x.1, x.2)
 

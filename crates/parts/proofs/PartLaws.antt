@@ -12,7 +12,7 @@ use mathlib.Core.List.{List}
 use native.Mathlib.Omega.{arith}
 use lib.Bits.{bit_xor, xor_zero_r, xor_block, xor_shr, xor_mod}
 use lib.ListN.{length, get_or}
-use lib.Pow.{pow_pos, pow_lt, shr_lt, split}
+use lib.Pow.{pow_pos, pow-lt, shr_lt, split}
 use Rattle.kinds.proofs.FrameLaws.{port_lt}
 use Rattle.kinds.specs.Frame.{tick_bits, tick_of, port_of, word_at}
 use Rattle.bits.specs.Image.{Linear, columns, AllBelow}
@@ -93,7 +93,7 @@ module _ (k : ℕ) (C : List ℕ) where
 pub rows_of_dot : (m l : ℕ) (f : ℕ → ℕ) → Linear f → Into f (2 ^ l) (2 ^ m) → (r x : ℕ) → r < m → x < 2 ^ l
     → dot (get_or (rows_of m l f) r 0) x ≡ bit r (f x)
 rows_of_dot m l f linear into r x h b =
-    row_dot m (columns l f) (columns_below l (2 ^ m) f (λ j g. into (2 ^ j) (pow_lt g))) x r h
+    row_dot m (columns l f) (columns_below l (2 ^ m) f (λ j g. into (2 ^ j) (pow-lt g))) x r h
     ∙ ap (bit r) (sym (linear_image l f linear x b))
 
 pub rows_of_length : (m l : ℕ) (f : ℕ → ℕ) → length (rows_of m l f) ≡ m
@@ -104,4 +104,4 @@ rows_of_below m l f = rw columns_length at (rows_below m (columns l f))
 
 pub rows_of_dots : (m l : ℕ) (f : ℕ → ℕ) → Linear f → Into f (2 ^ l) (2 ^ m) → (x : ℕ) → x < 2 ^ l → dots (rows_of m l f) x ≡ f x
 rows_of_dots m l f linear into x h =
-    rows_image m (columns l f) (columns_below l (2 ^ m) f (λ j g. into (2 ^ j) (pow_lt g))) x ∙ sym (linear_image l f linear x h)
+    rows_image m (columns l f) (columns_below l (2 ^ m) f (λ j g. into (2 ^ j) (pow-lt g))) x ∙ sym (linear_image l f linear x h)

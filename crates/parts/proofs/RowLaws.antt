@@ -9,9 +9,9 @@ use mathlib.Core.Path.{◌≡◌, sym, ap, ◌∙◌}
 use mathlib.Core.List.{List, ◌++◌}
 use native.Mathlib.Decide.{dec_lt}
 use native.Mathlib.Omega.{arith}
-use lib.ListN.{length, get_or, take, length_append, length_take, get_or_append}
+use lib.ListN.{length, get_or, take, length-append, length-take, get_or-append}
 use lib.Pow.{pow_mono, split}
-use lib.Seq.{get_or_take, get_or_append_add, ext_get_or}
+use lib.Seq.{get_or-take, get_or-append-add, ext_get_or}
 use Rattle.kinds.specs.Frame.{tick_bits, word_at}
 use Rattle.bits.specs.Image.{columns}
 use Rattle.bits.specs.Parity.{bit}
@@ -62,11 +62,11 @@ module _ (n k : ℕ) (C : List ℕ) (within : k ≤ n) (count : length C ≡ n) 
   S = rows_p3 n k C
 
   few : length (take k C) ≡ k
-  few = omega (arith, length_take k C, count)
+  few = omega (arith, length-take k C, count)
 
   -- bit j of a row is a bit of column j
   column : (j : ℕ) → j < k → place C (word_at k 0 (2 ^ j)) ≡ get_or (take k C) j 0
-  column j h = ap (place C) (let e : word_at k 0 (2 ^ j) ≡ 2 ^ j = omega arith in e) ∙ image_unit C j ∙ sym (get_or_take k C j 0 h)
+  column j h = ap (place C) (let e : word_at k 0 (2 ^ j) ≡ 2 ^ j = omega arith in e) ∙ image_unit C j ∙ sym (get_or-take k C j 0 h)
 
   row_bit : (m r j : ℕ) (f : ℕ → ℕ) → r < m → j < k → bit j (get_or (rows_of m k f) r 0) ≡ bit r (f (2 ^ j))
   row_bit m r j f h l = rows_bit m (columns k f) r j h (rw (columns_length k f) l) ∙ ap (bit r) (columns_at k f j l)
@@ -81,15 +81,15 @@ module _ (n k : ℕ) (C : List ℕ) (within : k ≤ n) (count : length C ≡ n) 
 
   same_row : (i : ℕ) → i < n → get_or (rows n (take k C)) i 0 ≡ get_or (R ++ S) i 0
   same_row i h = elim (dec_lt i k) [
-    | yes l ↦ same_as k i i (P1 k C) l h (λ p. bit_low i k (place C (word_at k 0 p)) l) ∙ sym (get_or_append R S 0 i (rw (P1_count k C) l))
+    | yes l ↦ same_as k i i (P1 k C) l h (λ p. bit_low i k (place C (word_at k 0 p)) l) ∙ sym (get_or-append R S 0 i (rw (P1_count k C) l))
     | no l ↦
         let r : ℕ = i - k in
         let here : k + r ≡ i = omega arith in
         same_as (tick_bits n k) r i (P3 k C) (omega arith) h (λ p. rw here at (bit_high r k (place C (word_at k 0 p))))
-        ∙ sym (ap (λ (x : ℕ). get_or (R ++ S) x 0) (let e : i ≡ length R + r = omega (arith, P1_count k C) in e) ∙ get_or_append_add R S r 0)
+        ∙ sym (ap (λ (x : ℕ). get_or (R ++ S) x 0) (let e : i ≡ length R + r = omega (arith, P1_count k C) in e) ∙ get_or-append-add R S r 0)
   ]
 
   pub rows_together : rows n (take k C) ≡ R ++ S
   rows_together =
-      ext_get_or 0 (rows n (take k C)) (R ++ S) (rows_length n (take k C) ∙ sym (length_append R S ∙ omega (arith, P1_count k C, P3_count n k C)))
+      ext_get_or 0 (rows n (take k C)) (R ++ S) (rows_length n (take k C) ∙ sym (length-append R S ∙ omega (arith, P1_count k C, P3_count n k C)))
       (λ i h. same_row i (rw rows_length at h))

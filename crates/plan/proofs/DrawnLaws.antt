@@ -5,11 +5,11 @@
 use Prim.Native.Nat.{ℕ, ◌+◌, ◌-◌, ◌^◌, ◌<◌, ◌≤◌}
 use mathlib.Core.Path.{◌≡◌, sym, ap, ◌∙◌}
 use mathlib.Core.List.{List, map}
-use native.Mathlib.Nat.{add_sub_cancel_left}
+use native.Mathlib.Nat.{add-sub_cancel_left}
 use native.Mathlib.Omega.{arith}
-use lib.ListN.{length, get_or, take, drop, length_map, length_take, length_drop}
-use lib.Pow.{pow_add, split}
-use lib.Seq.{get_or_take, get_or_drop, ext_get_or}
+use lib.ListN.{length, get_or, take, drop, length-map, length-take, length-drop}
+use lib.Pow.{pow-add, split}
+use lib.Seq.{get_or-take, get_or-drop, ext_get_or}
 use Rattle.kinds.specs.Frame.{tick_bits, tick_of, port_of, word_at, address_of, bank_of}
 use Rattle.kinds.proofs.FrameLaws.{port_lt, tick_unit}
 use Rattle.bits.specs.Image.{image, columns}
@@ -56,23 +56,23 @@ module _ (n k : ℕ) (ss : List Stage) (C : List ℕ) (within : k ≤ n) (order 
 
   pub addresses_drawn : map (tick_of k) C ≡ columns n (λ i. address_of k (f i))
   addresses_drawn =
-      ext_get_or 0 (map (tick_of k) C) (columns n (λ i. address_of k (f i))) (length_map C (tick_of k) ∙ order.count ∙ sym (columns_length n (λ i. address_of k (f i))))
+      ext_get_or 0 (map (tick_of k) C) (columns n (λ i. address_of k (f i))) (length-map C (tick_of k) ∙ order.count ∙ sym (columns_length n (λ i. address_of k (f i))))
       (λ j h.
-      let l : j < length C = rw length_map at h in
+      let l : j < length C = rw length-map at h in
       map_at (tick_of k) C j l ∙ sym (address_column j) ∙ sym (columns_at n (λ i. address_of k (f i)) j (omega (arith, order.count))))
 
   -- the banks from column a on are the columns of a part of M that sends 2^j where M sends 2^(a + j)
   part_drawn : (a m : ℕ) (g : ℕ → ℕ) → a + m ≤ n → n ≤ array_width → ((j : ℕ) → g (2 ^ j) ≡ bank_of k (f (2 ^ (a + j))))
       → take m (drop a (padded banks)) ≡ columns m g
   part_drawn a m g inside room same =
-      let few : length banks ≡ n = length_map C (bank_through k G) ∙ order.count in
+      let few : length banks ≡ n = length-map C (bank_through k G) ∙ order.count in
       let whole = padded_length array_width banks (omega (arith, few)) in
-      let size : length (take m (drop a (padded banks))) ≡ m = omega (arith, length_take m (drop a (padded banks)), length_drop a (padded banks), whole) in
+      let size : length (take m (drop a (padded banks))) ≡ m = omega (arith, length-take m (drop a (padded banks)), length-drop a (padded banks), whole) in
       ext_get_or 0 (take m (drop a (padded banks))) (columns m g) (size ∙ sym (columns_length m g))
       (λ j h.
       let l : j < m = omega (arith, size) in
-      get_or_take m (drop a (padded banks)) j 0 l
-      ∙ get_or_drop a (padded banks) j 0
+      get_or-take m (drop a (padded banks)) j 0 l
+      ∙ get_or-drop a (padded banks) j 0
       ∙ padded_at array_width banks (a + j)
       ∙ map_at (bank_through k G) C (a + j) (omega (arith, order.count))
       ∙ sym (bank_column (a + j))
@@ -84,9 +84,9 @@ module _ (n k : ℕ) (ss : List Stage) (C : List ℕ) (within : k ≤ n) (order 
     wiring_drawn =
         ap (λ (m : ℕ). take m (padded banks)) {x = k - 0} {y = k} (omega arith)
         ∙ part_drawn 0 k (port_to_bank k f) (omega arith) room
-        (λ j. ap (λ (x : ℕ). bank_of k (f x)) (let e : word_at k 0 (2 ^ j) ≡ 2 ^ (0 + j) = omega (arith, pow_add 2 0 j) in e))
+        (λ j. ap (λ (x : ℕ). bank_of k (f x)) (let e : word_at k 0 (2 ^ j) ≡ 2 ^ (0 + j) = omega (arith, pow-add 2 0 j) in e))
 
     pub tick_part_drawn : take (n - k) (drop k (padded banks)) ≡ columns (tick_bits n k) (tick_to_bank k f)
     tick_part_drawn =
         part_drawn k (n - k) (tick_to_bank k f) (omega arith) room
-        (λ j. ap (λ (x : ℕ). bank_of k (f x)) (rw (add_sub_cancel_left k j) at (tick_unit {k = k} {j = k + j} (omega arith))))
+        (λ j. ap (λ (x : ℕ). bank_of k (f x)) (rw (add-sub_cancel_left k j) at (tick_unit {k = k} {j = k + j} (omega arith))))

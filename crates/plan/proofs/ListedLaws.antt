@@ -3,12 +3,12 @@
 --   kept_listed        the rows of P3 that are kept on the ports that P1 sends to 0
 use Prim.Native.Nat.{ℕ, ◌+◌, ◌-◌, ◌<◌, ◌≤◌}
 use mathlib.Core.Path.{◌≡◌, sym, ap, ◌∙◌}
-use mathlib.Core.Bool.{true, false, Bool_discrete}
+use mathlib.Core.Bool.{true, false, Bool-discrete}
 use mathlib.Core.List.{List, ◌++◌}
 use mathlib.Core.Logic.{◌↔◌}
 use native.Mathlib.Omega.{arith}
-use native.Mathlib.Nat.{zero_add}
-use lib.ListN.{length, get_or, length_map}
+use native.Mathlib.Nat.{zero-add}
+use lib.ListN.{length, get_or, length-map}
 use Rattle.kinds.specs.Decided.{opposite}
 use Rattle.kinds.specs.Frame.{tick_bits}
 use Rattle.kinds.specs.Search.{those}
@@ -37,12 +37,12 @@ module _ (n k : ℕ) (C : List ℕ) (within : k ≤ n) where
     pub others_listed : kept_numbers ms 0 k false ≡ others_of_p1 k C
     unfolding kept_numbers others_of_p1 others
     others_listed =
-        ap (those (λ j. Bool_discrete (kept_in ms (0 + j)) false)) {x = k - 0} {y = length R} (omega (arith, P1_count k C))
-        ∙ those_same (λ j. Bool_discrete (kept_in ms (0 + j)) false) (sum_before? R) (length R)
+        ap (those (λ j. Bool-discrete (kept_in ms (0 + j)) false)) {x = k - 0} {y = length R} (omega (arith, P1_count k C))
+        ∙ those_same (λ j. Bool-discrete (kept_in ms (0 + j)) false) (sum_before? R) (length R)
         (λ j h.
         let kept = told (R ++ S) ms j (masked j (omega (arith, P1_count k C))) in
         let prefix = Is_kept_prefix R S j h in
-        rw (zero_add j) (
+        rw (zero-add j) (
           λ e. stable (sum_before? R j) (λ own. denied kept e (prefix.1 own)),
           λ s. says_same (kept_in ms j) false kept (says_no (λ own. prefix.0 own s)),
         ))
@@ -53,10 +53,10 @@ module _ (n k : ℕ) (C : List ℕ) (within : k ≤ n) where
         let T = taken_on (ports_to_zero k C) S in
         let zeros = zero_ports k C in
         let at = taken_kept k R S (ports_to_zero k C) (rows_of_below k k (P1 k C)) (rows_of_below (tick_bits n k) k (P3 k C)) zeros.0 zeros.1 in
-        those_same (λ j. Bool_discrete (kept_in ms (k + j)) true) (λ j. opposite (sum_before? T j)) (n - k)
+        those_same (λ j. Bool-discrete (kept_in ms (k + j)) true) (λ j. opposite (sum_before? T j)) (n - k)
         (λ j h.
         let kept = told (R ++ S) ms (k + j) (masked (k + j) (omega arith)) in
         let taken : IsKept (R ++ S) (k + j) ↔ IsKept T j = rw (P1_count k C) at (at j (rw (P3_count n k C) h)) in
         (λ e. taken.0 (kept.0 e), λ own. kept.1 (taken.1 own)))
         ∙ sym (kept_those T (n - k))
-        ∙ ap (kept_at T) (sym (length_map S (dots (ports_to_zero k C)) ∙ P3_count n k C))
+        ∙ ap (kept_at T) (sym (length-map S (dots (ports_to_zero k C)) ∙ P3_count n k C))

@@ -9,11 +9,11 @@
 use Prim.Native.Nat.{ℕ, zero, suc, ◌+◌, ◌*◌, ◌^◌, ◌≤◌, ◌<◌}
 use mathlib.Core.Path.{◌≡◌, refl, ap, ◌∙◌, sym}
 use mathlib.Core.List.{List, [], ◌∷◌, ◌++◌}
-use native.Mathlib.Numerals.{add_one}
-use native.Mathlib.Nat.{suc_mul}
+use native.Mathlib.Numerals.{add-one}
+use native.Mathlib.Nat.{suc-mul}
 use native.Mathlib.Omega.{arith}
-use lib.ListN.{length, get_or, length_drop}
-use lib.Count.{ones_le}
+use lib.ListN.{length, get_or, length-drop}
+use lib.Count.{ones-le}
 use Rattle.kinds.specs.Edition.{Edition, edition1, side_places}
 use Rattle.sheet.specs.Sheet.{Stage, count_place, stage_places, stage_at, stages_in}
 use Rattle.sheet.specs.Layout.{FormedSide}
@@ -38,23 +38,23 @@ module _ (f : Stage → ℕ) (l : List ℕ) where
 
   pub total_more : (m : ℕ) → total f (stages_in (m + 1) l) ≡ total f (stages_in m l) + f (stage_at l m)
   unfolding total
-  total_more m = rw (add_one m) (ap (total f) (stages_snoc m l) ∙ total_append f (stages_in m l) (stage_at l m ∷ []) ∙ omega arith)
+  total_more m = rw (add-one m) (ap (total f) (stages_snoc m l) ∙ total_append f (stages_in m l) (stage_at l m ∷ []) ∙ omega arith)
 
 pub total_const : (b : ℕ) (l : List ℕ) (m : ℕ) → total (λ s. b) (stages_in m l) ≡ m * b
 total_const b l zero = total_none (λ s. b) l ∙ omega arith
-total_const b l (suc m) = rw (← add_one m) (total_more (λ s. b) l m ∙ omega (arith, total_const b l m, suc_mul m b))
+total_const b l (suc m) = rw (← add-one m) (total_more (λ s. b) l m ∙ omega (arith, total_const b l m, suc-mul m b))
 
 pub gates_few : (l : List ℕ) (m : ℕ) → ((s : ℕ) → s < m → (stage_at l s).control < 2 ^ 16) → total xor_gates_of (stages_in m l) ≤ 15 * m
 gates_few l zero small = omega (arith, total_none xor_gates_of l)
 gates_few l (suc m) small =
     let rest = gates_few l m (λ s h. small s (omega arith)) in
-    let one_more : total xor_gates_of (stages_in (suc m) l) ≡ total xor_gates_of (stages_in m l) + xor_gates_of (stage_at l m) = rw (← add_one m) (total_more xor_gates_of l m) in
-    omega (arith, one_more, rest, ones_le 16 _ (small m (omega arith)))
+    let one_more : total xor_gates_of (stages_in (suc m) l) ≡ total xor_gates_of (stages_in m l) + xor_gates_of (stage_at l m) = rw (← add-one m) (total_more xor_gates_of l m) in
+    omega (arith, one_more, rest, ones-le 16 _ (small m (omega arith)))
 
 pub controlled : {n k m : ℕ} {l x : List ℕ} → m ≡ count_place edition1 l → x ≡ stage_places edition1 l → length l ≡ side_places edition1 → FormedSide edition1 n k l
     → Controlled m x
 controlled {n} {k} {m} {l} {x} count stages places formed =
-    let long : length x ≡ 16 = ap length stages ∙ length_drop 16 l ∙ omega arith in
+    let long : length x ≡ 16 = ap length stages ∙ length-drop 16 l ∙ omega arith in
     let few : m ≤ edition1.most_stages = omega (arith, formed.count) in
     record {
       room = omega arith;

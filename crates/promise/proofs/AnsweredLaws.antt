@@ -11,7 +11,7 @@ use mathlib.Core.List.{List, []}
 use mathlib.Core.Logic.{◌↔◌}
 use mathlib.Core.Option.{Option, none, some}
 use native.Mathlib.Omega.{arith}
-use lib.ListN.{length, get_or, length_map}
+use lib.ListN.{length, get_or, length-map}
 use Rattle.kinds.specs.Frame.{ticks}
 use Rattle.kinds.specs.First.{Reason, EachReason}
 use Rattle.kinds.specs.Refusal.{given}
@@ -66,7 +66,7 @@ module _ (n k : ℕ) (f g : ℕ → ℕ) (st : State) (ws : List ℕ) (m : Memor
     leaving = ap (λ (o : Outcome). o.leaving) (call_done [] n k f g st ws m ok)
 
     same_length : length (words_at reads m.words) ≡ length reads
-    same_length = length_map reads (λ (x : ℕ). get_or m.words x 0)
+    same_length = length-map reads (λ (x : ℕ). get_or m.words x 0)
 
     leaves_seen : {p w : ℕ} → LeavesBy (access_of n k f g st ws) m p w → Leaves (seen_of (call [] n k f g st ws m)) p w
     leaves_seen {p} by = record {

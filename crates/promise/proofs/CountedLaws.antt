@@ -7,7 +7,7 @@ use mathlib.Core.Path.{◌≡◌, refl, sym, ap, ap₂, ◌∙◌}
 use mathlib.Core.List.{List, [], ◌∷◌}
 use mathlib.Core.Logic.{◌⊎◌, inl, inr}
 use native.Mathlib.Decide.{ℕ_discrete}
-use native.Mathlib.Nat.{add_mul, mul_lt_mul_of_pos_right}
+use native.Mathlib.Nat.{add-mul, mul-lt-mul_of_pos_right}
 use native.Mathlib.Omega.{arith}
 use lib.ListN.{length}
 use lib.Pow.{pow_pos, high}
@@ -47,7 +47,7 @@ module _ {n k : ℕ} (within : k ≤ n) {S : List (List ℕ)} {j : ℕ} {c : Clo
 
   -- the frame that comes in before the next call, where a ticks of it have come
   frame_of : (F a : ℕ) → words_before S (suc j) ≡ F * 2 ^ n + a * 2 ^ k → a < T → incoming n S (suc j) ≡ F
-  frame_of F a e l = ap (λ (b : ℕ). b / 2 ^ n) e ∙ high F n (omega (arith, mul_lt_mul_of_pos_right l (pow_pos k), frame_whole within))
+  frame_of F a e l = ap (λ (b : ℕ). b / 2 ^ n) e ∙ high F n (omega (arith, mul-lt-mul_of_pos_right l (pow_pos k), frame_whole within))
 
   abbrev after : Clock
   after = clock_after n k S j c
@@ -68,11 +68,11 @@ module _ {n k : ℕ} (within : k ≤ n) {S : List (List ℕ)} {j : ℕ} {c : Clo
           (inl (record { frame = frame; reader = ap (λ (x : Clock). x.r) clock; part = λ full. false≢true (sym (ap words_came e) ∙ full.words) }), then)
       go (w ∷ ws) e =
           let brings : length (call_at S j) ≡ 2 ^ k = ap length e ∙ came_all (2 ^ k) w ws (rw e at whole) in
-          let more : words_before S (suc j) ≡ incoming n S j * 2 ^ n + (c.a + 1) * 2 ^ k = omega (arith, before_more S j reach, brings, now.counted, add_mul c.a 1 (2 ^ k)) in
+          let more : words_before S (suc j) ≡ incoming n S j * 2 ^ n + (c.a + 1) * 2 ^ k = omega (arith, before_more S j reach, brings, now.counted, add-mul c.a 1 (2 ^ k)) in
           elim (ℕ_discrete (c.a + 1) T) [
             | yes full ↦
                 let clock : after ≡ _ = ap (λ (l : List ℕ). next_clock T c (words_came l)) e ∙ clock_full T c full in
-                let (frame, then) = counted_by (incoming n S j + 1) 0 _ clock (omega (arith, more, rw full at more, frame_whole within, add_mul (incoming n S j) 1 (2 ^ n))) (pow_pos (tick_bits n k)) in
+                let (frame, then) = counted_by (incoming n S j + 1) 0 _ clock (omega (arith, more, rw full at more, frame_whole within, add-mul (incoming n S j) 1 (2 ^ n))) (pow_pos (tick_bits n k)) in
                 (inr (record { frame = frame; reader = ap (λ (x : Clock). x.r) clock; full = record { possible = now.possible; words = ap words_came e; last = full } }), then)
             | no part ↦
                 let clock : after ≡ _ = ap (λ (l : List ℕ). next_clock T c (words_came l)) e ∙ clock_part T c part in

@@ -12,9 +12,9 @@ use mathlib.Core.Bool.{true}
 use mathlib.Core.List.{List}
 use mathlib.Core.Logic.{◌⊎◌, inl, inr}
 use mathlib.Core.Option.{none}
-use native.Mathlib.Nat.{zero_div}
+use native.Mathlib.Nat.{zero-div}
 use native.Mathlib.Omega.{arith}
-use borrow.Author.Tests.{ltb_true, lt_ltb}
+use borrow.Author.Tests.{ltb-true, lt-ltb}
 use lib.Dec.{ltb}
 use lib.ListN.{length}
 use lib.Pow.{pow_pos}
@@ -81,7 +81,7 @@ module _ {n k : ℕ} (within : k ≤ n) {S : List (List ℕ)} (whole : WholeTick
 
   now_first : AtCall 0 x
   now_first = record {
-    counted = rw idle (record { possible = omega (arith, pow_pos (tick_bits n k)); counted = rw (before_none S, zero_div (2 ^ n)) (omega arith) });
+    counted = rw idle (record { possible = omega (arith, pow_pos (tick_bits n k)); counted = rw (before_none S, zero-div (2 ^ n)) (omega arith) });
     held = first;
   }
 
@@ -116,9 +116,9 @@ module _ {n k : ℕ} (within : k ≤ n) {S : List (List ℕ)} (whole : WholeTick
   family_hands j reach = rw (keeps.hands reach (now j reach)) (to, from)
     where
       to : ltb (clock (at j)).r (ticks n k) ≡ true → TickDue 0 n k S j
-      to busy = (reads_only within S whole (λ j. clock (at j)) counted_at goes_at (ap (λ (y : Y). (clock y).r) at_first ∙ ap (λ (c : Clock). c.r) idle) j (omega arith) (ltb_true (clock (at j)).r (ticks n k) busy)).0
+      to busy = (reads_only within S whole (λ j. clock (at j)) counted_at goes_at (ap (λ (y : Y). (clock y).r) at_first ∙ ap (λ (c : Clock). c.r) idle) j (omega arith) (ltb-true (clock (at j)).r (ticks n k) busy)).0
 
       from : TickDue 0 n k S j → ltb (clock (at j)).r (ticks n k) ≡ true
       from (F, T, c, completed, early, then) =
           let (r, _) = reads_in_turn within S whole (λ j. clock (at j)) counted_at goes_at completed c j early (omega (arith, then)) (omega arith) in
-          lt_ltb (clock (at j)).r (ticks n k) (omega (arith, r, early))
+          lt-ltb (clock (at j)).r (ticks n k) (omega (arith, r, early))

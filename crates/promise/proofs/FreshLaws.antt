@@ -7,7 +7,7 @@ use Prim.Native.Nat.{ℕ, ◌+◌, ◌^◌}
 use mathlib.Core.Path.{◌≡◌, refl, ap₂}
 use mathlib.Core.List.{List}
 use native.Mathlib.Omega.{arith}
-use lib.ListN.{length, replicate, length_replicate, get_or_replicate}
+use lib.ListN.{length, replicate, length-replicate, get_or-replicate}
 use lib.Pow.{pow_pos}
 use Rattle.kinds.specs.Frame.{tick_bits, ticks}
 use Rattle.bits.specs.Image.{AllBelow}
@@ -42,7 +42,7 @@ is_fresh n k =
     fresh_any (record { words = zeros; marks = zeros }) long (λ j h. rw (all_zero j h) (omega arith)) long all_zero
   where
     long : length (replicate {A = ℕ} (2 ^ (n + 1)) 0) ≡ 2 ^ (n + 1)
-    long = length_replicate (2 ^ (n + 1)) 0
+    long = length-replicate (2 ^ (n + 1)) 0
 
     all_zero : AllZero (replicate (2 ^ (n + 1)) 0)
-    all_zero j h = get_or_replicate (2 ^ (n + 1)) j 0 0 (rw long at h)
+    all_zero j h = get_or-replicate (2 ^ (n + 1)) j 0 0 (rw long at h)

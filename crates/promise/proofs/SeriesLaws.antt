@@ -13,8 +13,8 @@ use mathlib.Core.Path.{◌≡◌, refl, ap, ◌∙◌}
 use mathlib.Core.List.{List, [], ◌∷◌, ◌++◌, flatten}
 use mathlib.Core.Logic.{◌⊎◌}
 use native.Mathlib.Omega.{arith}
-use lib.ListN.{length, get_or, take, length_append, get_or_append}
-use lib.Seq.{get_or_append_add}
+use lib.ListN.{length, get_or, take, length-append, get_or-append}
+use lib.Seq.{get_or-append-add}
 use Rattle.kinds.specs.Lengths.{or_none, IsLength}
 use Rattle.bits.specs.Image.{AllBelow}
 use Rattle.promise.specs.Series.{IsCall, Series, call_at, words_before, SamePattern}
@@ -42,7 +42,7 @@ unfolding flatten
 flatten_cons ws S = refl
 
 before_cons : (ws : List ℕ) (S : List (List ℕ)) (j : ℕ) → words_before (ws ∷ S) (suc j) ≡ length ws + words_before S j
-before_cons ws S j = ap length (flatten_cons ws (take j S)) ∙ length_append ws (flatten (take j S))
+before_cons ws S j = ap length (flatten_cons ws (take j S)) ∙ length-append ws (flatten (take j S))
 
 pub before_none : (S : List (List ℕ)) → words_before S 0 ≡ 0
 unfolding flatten
@@ -55,7 +55,7 @@ before_more (ws ∷ S) (suc j) h = omega (arith, before_cons ws S j, before_cons
 
 pub word_comes : (S : List (List ℕ)) (j p : ℕ) → j < length S → p < length (call_at S j) → get_or (flatten S) (words_before S j + p) 0 ≡ get_or (call_at S j) p 0
 word_comes [] j p h l = absurd (omega arith)
-word_comes (ws ∷ S) zero p h l = rw (flatten_cons ws S, before_none (ws ∷ S)) (ap (λ (i : ℕ). get_or (ws ++ flatten S) i 0) (omega arith) ∙ get_or_append ws (flatten S) 0 p l)
+word_comes (ws ∷ S) zero p h l = rw (flatten_cons ws S, before_none (ws ∷ S)) (ap (λ (i : ℕ). get_or (ws ++ flatten S) i 0) (omega arith) ∙ get_or-append ws (flatten S) 0 p l)
 word_comes (ws ∷ S) (suc j) p h l =
     rw (flatten_cons ws S, before_cons ws S j)
-    (ap (λ (i : ℕ). get_or (ws ++ flatten S) i 0) (omega arith) ∙ get_or_append_add ws (flatten S) (words_before S j + p) 0 ∙ word_comes S j p (omega arith) l)
+    (ap (λ (i : ℕ). get_or (ws ++ flatten S) i 0) (omega arith) ∙ get_or-append-add ws (flatten S) (words_before S j + p) 0 ∙ word_comes S j p (omega arith) l)

@@ -6,7 +6,7 @@ use mathlib.Core.Path.{◌≡◌, refl, ap, ◌∙◌}
 use mathlib.Core.List.{List}
 use mathlib.Core.Logic.{◌⊎◌, inl, inr}
 use native.Mathlib.Decide.{dec_lt}
-use native.Mathlib.Nat.{le_div_iff_mul_le, div_lt_iff_lt_mul}
+use native.Mathlib.Nat.{le-div_iff_mul-le, div-lt_iff_lt-mul}
 use native.Mathlib.Omega.{arith}
 use lib.ListN.{length}
 use lib.Pow.{pow_pos}
@@ -30,8 +30,8 @@ module _ {n k : ℕ} (within : k ≤ n) (S : List (List ℕ)) (whole : WholeTick
   module _ {F T : ℕ} (completed : CompletedIn n S F T) where
     turned_then : Turns n k S T (clock T) × (incoming n S T ≡ F)
     turned_then =
-        let early : incoming n S T < F + 1 = (div_lt_iff_lt_mul (pow_pos n)).1 completed.not_before in
-        let late : F + 1 ≤ incoming n S (suc T) = (le_div_iff_mul_le (pow_pos n)).1 completed.by_then in
+        let early : incoming n S T < F + 1 = (div-lt_iff_lt-mul (pow_pos n)).1 completed.not_before in
+        let late : F + 1 ≤ incoming n S (suc T) = (le-div_iff_mul-le (pow_pos n)).1 completed.by_then in
         go early late (way_of T completed.reached)
       where
         go : incoming n S T < F + 1 → F + 1 ≤ incoming n S (suc T) → Stays n k S T (clock T) ⊎ Turns n k S T (clock T) → Turns n k S T (clock T) × (incoming n S T ≡ F)
@@ -61,8 +61,8 @@ module _ {n k : ℕ} (within : k ≤ n) (S : List (List ℕ)) (whole : WholeTick
   completes_now : (j : ℕ) → j < length S → Turns n k S j (clock j) → CompletedIn n S (incoming n S j) j
   completes_now j reach turns = record {
     reached = reach;
-    not_before = (div_lt_iff_lt_mul (pow_pos n)).0 (omega arith);
-    by_then = (le_div_iff_mul_le (pow_pos n)).0 (omega (arith, turns.frame));
+    not_before = (div-lt_iff_lt-mul (pow_pos n)).0 (omega arith);
+    by_then = (le-div_iff_mul-le (pow_pos n)).0 (omega (arith, turns.frame));
   }
 
   -- the tick that is read in call j is due then

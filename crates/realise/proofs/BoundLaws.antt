@@ -7,7 +7,7 @@ use mathlib.Core.List.{List}
 use native.Mathlib.Omega.{arith}
 use lib.Bits.{bit_xor}
 use lib.ListN.{length}
-use lib.Pow.{pow_lt, pow_mono}
+use lib.Pow.{pow-lt, pow_mono}
 use Rattle.kinds.specs.Edition.{Edition}
 use Rattle.kinds.specs.Frame.{word_at, bank_of}
 use Rattle.bits.specs.Image.{image, columns}
@@ -51,7 +51,7 @@ module _ (n k : ℕ) (W R : Side) (C : List ℕ) (within : k ≤ n) (write : InR
         rank_xor k stages wires,
         stages_rank k R.stages (P3 k C),
         rank_after_inner k (P1 k C) (image R.wiring) (image_xor R.wiring),
-        rank_rows k (columns k (P1 k C)) (columns_below k (2 ^ k) (P1 k C) (λ j h. P1_into k C (2 ^ k) (2 ^ j) (pow_lt h))),
+        rank_rows k (columns k (P1 k C)) (columns_below k (2 ^ k) (P1 k C) (λ j h. P1_into k C (2 ^ k) (2 ^ j) (pow-lt h))),
       )
 
 pub read_stages_law : {e : Edition} {n k : ℕ} {C s : List ℕ} → k ≤ n → Order n C → WellFormed e n k s → Realises e n k C s

@@ -8,7 +8,7 @@ use mathlib.Core.Bool.{true}
 use mathlib.Core.List.{List, [], flatten}
 use mathlib.Core.Option.{none}
 use native.Mathlib.Omega.{arith}
-use borrow.Author.Tests.{lt_ltb}
+use borrow.Author.Tests.{lt-ltb}
 use lib.ListN.{length, get_or}
 use Rattle.kinds.specs.Frame.{ticks, tick_of, port_of}
 use Rattle.kinds.specs.Answers.{Says}
@@ -65,7 +65,7 @@ module _ {n k : ℕ} (within : k ≤ n) {P f g : ℕ → ℕ → ℕ} (fits : (F
     word_leaves : (i : ℕ) → i < 2 ^ n → tick_of k (P G i) ≡ y.state.r → Leaves (seen j y) (port_of k (P G i)) (word_in n S G i)
     word_leaves i l e =
         let busy : y.state.r < ticks n k = omega (arith, tick_lt within ((fits G).places.into i l)) in
-        let reads : reading (ticks n k) y.state ≡ true = lt_ltb y.state.r (ticks n k) busy in
+        let reads : reading (ticks n k) y.state ≡ true = lt-ltb y.state.r (ticks n k) busy in
         let all : length (called n k f g S j y).leaving ≡ 2 ^ k = call_leaving [] n k (f F) (g G) y.state (call_at S j) y.memory ∙ rw (done, reads) in
         record { handed = rw done reads; port = rw all (port_lt k (P G i)); word = rw done (held_word within (fits F) (fits G) now.held i l e) }
 

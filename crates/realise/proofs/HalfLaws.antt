@@ -16,8 +16,8 @@ use mathlib.Core.Logic.{◌≢◌, ◌↔◌}
 use mathlib.Core.Option.{none}
 use native.Mathlib.Decide.{ℕ_discrete, dec_lt}
 use native.Mathlib.Omega.{arith}
-use borrow.Author.Tests.{lt_ltb, le_ltb, eq_eqb, ne_eqb}
-use lib.ListN.{length, get_or, replicate, length_replicate, get_or_replicate, get_or_eq_default}
+use borrow.Author.Tests.{lt-ltb, le-ltb, eq-eqb, ne_eqb}
+use lib.ListN.{length, get_or, replicate, length-replicate, get_or-replicate, get_or-eq_default}
 use lib.Pow.{split, high}
 use Rattle.kinds.specs.Frame.{ticks, tick_of, port_of, word_at}
 use Rattle.kinds.proofs.FrameLaws.{tick_lt, port_lt, word_lt}
@@ -107,8 +107,8 @@ place_of n k f h j = places_at n k f h (tick_of k j) (port_of k j) (port_lt k j)
 module _ {T : ℕ} {st : State} (ok : Possible T st) where
   read_state : ((after_the_read T st).a ≡ st.a) × ((after_the_read T st).h < 2) × (st.a < (after_the_read T st).r) × ((after_the_read T st).r ≤ T)
   read_state = elim (dec_lt st.r T) [
-    | yes busy ↦ rw (lt_ltb st.r T busy) (omega arith)
-    | no idle ↦ rw (le_ltb st.r T (omega arith)) (omega arith)
+    | yes busy ↦ rw (lt-ltb st.r T busy) (omega arith)
+    | no idle ↦ rw (le-ltb st.r T (omega arith)) (omega arith)
   ]
 
   part : (ws : List ℕ) → ¬ Completes T (clock_of st) (words_came ws) → (after_the_write (after_the_read T st) ws).a ≢ T
@@ -152,7 +152,7 @@ module _ {n k : ℕ} (within : k ≤ n) where
     mark_here : (b : ℕ) (l : List ℕ) → length l ≡ 2 ^ (n + 1) → (j : ℕ) → tick_of k j ≡ c → get_or (with_marks b (places_of n k f h c) l) (place_in n h (f j)) 0 ≡ b
     mark_here b l lent j now =
         rw (places_length n k f h c)
-        (put_here (replicate (2 ^ k) b) l (length_replicate (2 ^ k) b) lent j now ∙ get_or_replicate (2 ^ k) (port_of k j) b 0 (port_lt k j))
+        (put_here (replicate (2 ^ k) b) l (length-replicate (2 ^ k) b) lent j now ∙ get_or-replicate (2 ^ k) (port_of k j) b 0 (port_lt k j))
 
   half_emptied : {Q d e v : ℕ → ℕ} → FitsOrder n k Q d e → {h r : ℕ} → h < 2 → r < ticks n k → {m : Memory} → length m.marks ≡ 2 ^ (n + 1)
       → Half n m h d (λ i. r ≤ tick_of k (Q i)) v → Half n (emptied (places_of n k e h r) m) h d (λ i. r + 1 ≤ tick_of k (Q i)) v
@@ -195,7 +195,7 @@ module _ {n k : ℕ} (within : k ≤ n) where
       unmarked : (p : ℕ) → get_or x.memory.marks p 0 ≡ 0
       unmarked p = elim (dec_lt p (length x.memory.marks)) [
         | yes inside ↦ fresh.marks_zero p inside
-        | no beyond ↦ get_or_eq_default x.memory.marks 0 (omega arith)
+        | no beyond ↦ get_or-eq_default x.memory.marks 0 (omega arith)
       ]
 
   module _ {P f g Q d e w v : ℕ → ℕ} (new : FitsOrder n k P f g) (old : FitsOrder n k Q d e) where
@@ -225,13 +225,13 @@ module _ {n k : ℕ} (within : k ≤ n) where
     after_both : {st : State} {m : Memory} {ws : List ℕ} → Possible (ticks n k) st → Brings k st.a w ws → Halves n k st m f w Q d v
         → Halves n k (after_the_write (after_the_read (ticks n k) st) ws) (served (access_of n k f e st ws) m) f w Q d v
     after_both {st} {ws = ws} ok brings halves = elim (dec_lt st.r (ticks n k)) [
-      | yes busy ↦ rw (lt_ltb st.r (ticks n k) busy) (after_write st (st.r + 1) ok.clock.incoming ok.half ws brings (after_read busy ok.half halves))
-      | no idle ↦ rw (le_ltb st.r (ticks n k) (omega arith)) (rw put_nil (after_write st st.r ok.clock.incoming ok.half ws brings halves))
+      | yes busy ↦ rw (lt-ltb st.r (ticks n k) busy) (after_write st (st.r + 1) ok.clock.incoming ok.half ws brings (after_read busy ok.half halves))
+      | no idle ↦ rw (le-ltb st.r (ticks n k) (omega arith)) (rw put_nil (after_write st st.r ok.clock.incoming ok.half ws brings halves))
     ]
 
     turn : {st : State} {m : Memory} → (st.a ≡ ticks n k) × (st.r ≡ ticks n k) × (st.h < 2) → Halves n k st m f w Q d v
         → {f' w' : ℕ → ℕ} → ((i : ℕ) → f' i < 2 ^ n) → Halves n k (turned (ticks n k) st) m f' w' P f w
-    turn {st} {m} (full, read, half) halves {f'} into = rw (eq_eqb st.a (ticks n k) full) (record {
+    turn {st} {m} (full, read, half) halves {f'} into = rw (eq-eqb st.a (ticks n k) full) (record {
       words_lent = halves.words_lent;
       marks_lent = halves.marks_lent;
       coming = λ i l. cell_empty (emptied_at (f' i) (into i)) (omega arith);
@@ -259,7 +259,7 @@ module _ {n k : ℕ} (within : k ≤ n) where
 
       reads_sound : (¬ Clash k (reads_of n k e st)) × (¬ SomeEmpty m.marks (reads_of n k e st))
       reads_sound = elim (dec_lt st.r (ticks n k)) [
-        | yes busy ↦ rw (lt_ltb st.r (ticks n k) busy) (
+        | yes busy ↦ rw (lt-ltb st.r (ticks n k) busy) (
           no_clash e old.read_banks (1 - st.h) busy,
           λ (p, l, empty).
               let port : p < 2 ^ k = rw (places_length n k e (1 - st.h) st.r) at l in
@@ -267,7 +267,7 @@ module _ {n k : ℕ} (within : k ≤ n) where
               empty (rw (places_at n k e (1 - st.h) st.r p port, ← same, ← old.in_order i b)
               ((held.halves.leaving i b).filled (omega (arith, ap (tick_of k) same, high st.r k port)))),
         )
-        | no idle ↦ rw (le_ltb st.r (ticks n k) (omega arith)) (λ (p, l, _). omega arith, λ (p, l, _). omega arith)
+        | no idle ↦ rw (le-ltb st.r (ticks n k) (omega arith)) (λ (p, l, _). omega arith, λ (p, l, _). omega arith)
       ]
 
       pub held_sound : (ws : List ℕ) → (call [] n k f e st ws m).refusal ≡ none
@@ -281,7 +281,7 @@ module _ {n k : ℕ} (within : k ≤ n) where
           let busy : st.r < ticks n k = omega (arith, tick_lt within (old.places.into i l)) in
           let reads = places_of n k e (1 - st.h) st.r in
           let place : get_or reads (port_of k (Q i)) 0 ≡ place_in n (1 - st.h) (e (Q i)) = rw now at (place_of n k e (1 - st.h) (Q i)) in
-          rw (lt_ltb st.r (ticks n k) busy) (
+          rw (lt-ltb st.r (ticks n k) busy) (
           words_at_law reads m.words (port_of k (Q i)) (omega (arith, places_length n k e (1 - st.h) st.r, port_lt k (Q i)))
           ∙ rw (place, ← old.in_order i l) ((held.halves.leaving i l).word (omega arith))
           )

@@ -11,9 +11,9 @@ use mathlib.Core.Path.{◌≡◌, refl, ap, ◌∙◌}
 use mathlib.Core.List.{List, [], flatten}
 use mathlib.Core.Logic.{inl, inr}
 use native.Mathlib.Decide.{dec_lt}
-use native.Mathlib.Nat.{suc_mul}
+use native.Mathlib.Nat.{suc-mul}
 use native.Mathlib.Omega.{arith}
-use borrow.Author.Tests.{lt_ltb, le_ltb}
+use borrow.Author.Tests.{lt-ltb, le-ltb}
 use lib.ListN.{length, get_or}
 use lib.Pow.{pow_pos, suc_ones, split}
 use Rattle.kinds.specs.Frame.{tick_bits, ticks, tick_of, port_of, word_at, in_order}
@@ -32,10 +32,10 @@ module _ (n k : ℕ) (u : ℕ → ℕ) where
   one_frame_length = in_order_length (2 * T) _
 
   frame_call : (c : ℕ) → c < T → call_at one_frame_law c ≡ in_order (2 ^ k) (λ p. u (word_at k c p))
-  frame_call c h = in_order_at (2 * T) _ [] c (omega arith) ∙ rw (lt_ltb c T h)
+  frame_call c h = in_order_at (2 * T) _ [] c (omega arith) ∙ rw (lt-ltb c T h)
 
   pub blank_call : (c : ℕ) → c < T → call_at one_frame_law (T + c) ≡ []
-  blank_call c h = in_order_at (2 * T) _ [] (T + c) (omega arith) ∙ rw (le_ltb (T + c) T (omega arith))
+  blank_call c h = in_order_at (2 * T) _ [] (T + c) (omega arith) ∙ rw (le-ltb (T + c) T (omega arith))
 
   pub came : (c : ℕ) → c < T → length (call_at one_frame_law c) ≡ 2 ^ k
   came c h = ap length (frame_call c h) ∙ in_order_length (2 ^ k) _
@@ -49,7 +49,7 @@ module _ (n k : ℕ) (u : ℕ → ℕ) where
   before_frame_call : (c : ℕ) → c ≤ T → words_before one_frame_law c ≡ c * 2 ^ k
   before_frame_call zero h = omega (arith, before_none one_frame_law)
   before_frame_call (suc c) h =
-      omega (arith, before_more one_frame_law c (omega (arith, one_frame_length)), came c (omega arith), before_frame_call c (omega arith), suc_mul c (2 ^ k))
+      omega (arith, before_more one_frame_law c (omega (arith, one_frame_length)), came c (omega arith), before_frame_call c (omega arith), suc-mul c (2 ^ k))
 
   module _ (within : k ≤ n) where
     pub completed : CompletedIn n one_frame_law 0 (T - 1)
@@ -58,7 +58,7 @@ module _ (n k : ℕ) (u : ℕ → ℕ) where
         let some = pow_pos (tick_bits n k) in
         record {
           reached = omega (arith, one_frame_length);
-          not_before = omega (arith, before_frame_call (T - 1) (omega arith), suc_mul (T - 1) (2 ^ k), pow_pos k);
+          not_before = omega (arith, before_frame_call (T - 1) (omega arith), suc-mul (T - 1) (2 ^ k), pow_pos k);
           by_then = omega (arith, before_frame_call (suc (T - 1)) (omega arith));
         }
 

@@ -8,12 +8,12 @@ use mathlib.Core.List.{List, [], ◌∷◌}
 use mathlib.Core.Logic.{◌≢◌}
 use mathlib.Core.Option.{none}
 use native.Mathlib.Decide.{ℕ_discrete, dec_lt}
-use native.Mathlib.Nat.{add_suc, suc_mul}
-use native.Mathlib.Numerals.{add_one}
+use native.Mathlib.Nat.{add-suc, suc-mul}
+use native.Mathlib.Numerals.{add-one}
 use native.Mathlib.Omega.{arith}
-use borrow.Author.Tests.{lt_ltb, le_ltb, eq_eqb, ne_eqb}
+use borrow.Author.Tests.{lt-ltb, le-ltb, eq-eqb, ne_eqb}
 use lib.Dec.{eqb}
-use lib.ListN.{length, get_or, replicate, length_replicate, get_or_replicate}
+use lib.ListN.{length, get_or, replicate, length-replicate, get_or-replicate}
 use lib.Pow.{pow_pos, split}
 use Rattle.kinds.specs.Frame.{tick_bits, ticks, tick_of, port_of, word_at, bank_of}
 use Rattle.kinds.specs.First.{EachReason}
@@ -54,14 +54,14 @@ leaving c = record { a = 0; h = 1; r = c }
 module _ (T c : ℕ) where
   next_coming : (ws : List ℕ) → 0 < length ws → suc c < T → next T (coming T c) ws ≡ coming T (suc c)
   next_coming [] came h = absurd (omega arith)
-  next_coming (w ∷ ws) came h = rw (next_part T (coming T c) w ws (omega arith), read_idle T (clock_of (coming T c)) (omega arith), add_one c)
+  next_coming (w ∷ ws) came h = rw (next_part T (coming T c) w ws (omega arith), read_idle T (clock_of (coming T c)) (omega arith), add-one c)
 
   next_turned : (ws : List ℕ) → 0 < length ws → suc c ≡ T → next T (coming T c) ws ≡ leaving 0
   next_turned [] came h = absurd (omega arith)
   next_turned (w ∷ ws) came h = next_full T (coming T c) w ws (omega arith)
 
   next_leaving : c < T → next T (leaving c) [] ≡ leaving (suc c)
-  next_leaving h = rw (next_blank T (leaving c) (omega arith), read_more T (clock_of (leaving c)) h, add_one c)
+  next_leaving h = rw (next_blank T (leaving c) (omega arith), read_more T (clock_of (leaving c)) h, add-one c)
 
 -- word i has v i in its cell, for each i below b
 abbrev InCells : (ℕ → ℕ) → (ℕ → ℕ) → List ℕ → ℕ → Type 0
@@ -76,10 +76,10 @@ module _ (n k : ℕ) (f : ℕ → ℕ) (c : ℕ) where
   coming_writes (w ∷ ws) came = refl
 
   coming_reads : reads_of n k f (coming (ticks n k) c) ≡ []
-  coming_reads = rw (le_ltb (ticks n k) (ticks n k) (omega arith))
+  coming_reads = rw (le-ltb (ticks n k) (ticks n k) (omega arith))
 
   leaving_reads : c < ticks n k → reads_of n k f (leaving c) ≡ cells
-  leaving_reads h = rw (lt_ltb c (ticks n k) h)
+  leaving_reads h = rw (lt-ltb c (ticks n k) h)
 
   cells_length : length cells ≡ 2 ^ k
   cells_length = places_length n k f 0 c
@@ -96,7 +96,7 @@ module _ (n k : ℕ) (f : ℕ → ℕ) (c : ℕ) where
         ∙ there i early
     | no late ↦
         let p = i - c * 2 ^ k in
-        let port : p < 2 ^ k = omega (arith, suc_mul c (2 ^ k)) in
+        let port : p < 2 ^ k = omega (arith, suc-mul c (2 ^ k)) in
         let word : word_at k c p ≡ i = omega arith in
         ap (λ (x : ℕ). get_or (put cells vs l) x 0) (ap f (sym word) ∙ sym (cell_at p port))
         ∙ put_in cells vs l different (rw lent (places_below n k f into 0 c (omega arith))) (count ∙ sym cells_length) p (rw cells_length port)
@@ -108,7 +108,7 @@ abbrev zeros : ℕ → List ℕ
 zeros n = replicate (2 ^ (n + 1)) 0
 
 zeros_length : (n : ℕ) → length (zeros n) ≡ 2 ^ (n + 1)
-zeros_length n = length_replicate (2 ^ (n + 1)) 0
+zeros_length n = length-replicate (2 ^ (n + 1)) 0
 
 module _ (n k : ℕ) (f g u : ℕ → ℕ) where
   abbrev T : ℕ
@@ -193,7 +193,7 @@ module _ (n k : ℕ) (f g u : ℕ → ℕ) where
             marks_lent = rw (frame_memory c l) (put_length cs _ m.marks ∙ earlier.marks_lent);
             words = rw (frame_memory c l) (there u m.words (call_at S c) earlier.words_lent (came n k u c l) (λ p. came_at n k u c p l) earlier.words);
             marks = rw (frame_memory c l)
-                (there (λ i. 1) m.marks _ earlier.marks_lent (length_replicate (length cs) 1 ∙ count) (λ p b. get_or_replicate (length cs) p 1 0 (omega arith)) earlier.marks);
+                (there (λ i. 1) m.marks _ earlier.marks_lent (length-replicate (length cs) 1 ∙ count) (λ p b. get_or-replicate (length cs) p 1 0 (omega arith)) earlier.marks);
           }
 
       pub own_cells : Injective f (2 ^ n)
@@ -224,7 +224,7 @@ module _ (n k : ℕ) (f g u : ℕ → ℕ) where
         ∙ state_after_law fine last (omega arith) (is_coming frame_fine last (omega arith)) refl
         ∙ next_turned T last (call_at S last) (some_came n k u last (omega arith)) (omega arith)
     is_leaving (suc c) h =
-        ap (λ (j : ℕ). (before j).state) (add_suc T c)
+        ap (λ (j : ℕ). (before j).state) (add-suc T c)
         ∙ state_after_law fine (T + c) (omega arith) (is_leaving c (omega arith)) (blank_call n k u c (omega arith))
         ∙ next_leaving T c h
 
@@ -241,7 +241,7 @@ module _ (n k : ℕ) (f g u : ℕ → ℕ) where
     unfolding put
     blank_words zero h = ap (λ (j : ℕ). (before j).memory.words) (omega arith)
     blank_words (suc c) h =
-        ap (λ (j : ℕ). (before j).memory.words) (add_suc T c)
+        ap (λ (j : ℕ). (before j).memory.words) (add-suc T c)
         ∙ ap (λ (m : Memory). m.words) (memory_after fine (T + c) (omega arith))
         ∙ rw (blank_call n k u c (omega arith)) (blank_words c (omega arith))
 
@@ -270,10 +270,10 @@ abbrev pub only : ℕ → ℕ → ℕ
 only i j = cond (eqb i j) 1 0
 
 pub only_small : (i j : ℕ) → only i j < 2 ^ 32
-only_small i j = elim (ℕ_discrete i j) [ yes e ↦ rw (eq_eqb i j e) (omega arith) | no ne ↦ rw (ne_eqb i j ne) (omega arith) ]
+only_small i j = elim (ℕ_discrete i j) [ yes e ↦ rw (eq-eqb i j e) (omega arith) | no ne ↦ rw (ne_eqb i j ne) (omega arith) ]
 
 pub only_one : (i : ℕ) → only i i ≡ 1
-only_one i = rw (eq_eqb i i refl)
+only_one i = rw (eq-eqb i i refl)
 
 only_it : (i j : ℕ) → only i j ≡ 1 → i ≡ j
 only_it i j same = stable (ℕ_discrete i j) (λ ne. omega (arith, rw (ne_eqb i j ne) at same))

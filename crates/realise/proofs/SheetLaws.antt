@@ -8,7 +8,7 @@ use Prim.Native.Nat.{ℕ, ◌+◌, ◌^◌, ◌<◌, ◌≤◌}
 use mathlib.Core.Path.{◌≡◌, refl, subst, ◌∙◌}
 use mathlib.Core.List.{List, []}
 use mathlib.Core.Logic.{◌↔◌}
-use native.Mathlib.Nat.{zero_add}
+use native.Mathlib.Nat.{zero-add}
 use native.Mathlib.Omega.{arith}
 use lib.ListN.{length}
 use Rattle.kinds.specs.Answers.{Says}
@@ -47,7 +47,7 @@ module _ {e : Edition} {n k : ℕ} {C s : List ℕ} where
     pub right_tick : {F T c : ℕ} → CompletedIn n S F T → c < ticks n k → T + 1 + c < length S → (l : List ℕ) → Moved n C (frame n S F) l
         → (outcome_at (called_on e n k s S) x (T + 1 + c)).leaving ≡ words_of_tick k l c
     right_tick {F} completed early reach l moved =
-        rw zero_add at (
+        rw zero-add at (
         over_tick within (order_bijection order) early ((answered.0 right).over x S fresh series) completed (omega arith) (sheet_whole e n k s x S) l
         (λ i h. moved.each i h ∙ in_order_at (2 ^ n) (word_in n S F) 0 i h)
         )
@@ -55,7 +55,7 @@ module _ {e : Edition} {n k : ℕ} {C s : List ℕ} where
     pub right_alone : (y : Stand) (R : List (List ℕ)) → Fresh n k y → Series k R → SamePattern S R → {F T c : ℕ} → frame n S F ≡ frame n R F → CompletedIn n S F T → c < ticks n k
         → T + 1 + c < length S → (outcome_at (called_on e n k s S) x (T + 1 + c)).leaving ≡ (outcome_at (called_on e n k s R) y (T + 1 + c)).leaving
     right_alone y R also others same {T = T} {c} words completed early reach =
-        subst (λ (j : ℕ). (outcome_at (called_on e n k s S) x j).leaving ≡ (outcome_at (called_on e n k s R) y j).leaving) (zero_add (T + 1 + c))
+        subst (λ (j : ℕ). (outcome_at (called_on e n k s S) x j).leaving ≡ (outcome_at (called_on e n k s R) y j).leaving) (zero-add (T + 1 + c))
         (over_alone within (order_bijection order) early ((answered.0 right).over x S fresh series) completed (omega arith) (sheet_whole e n k s x S)
         (λ i h. refl) ((answered.0 right).over y R also others) (sheet_whole e n k s y R) same words)
 

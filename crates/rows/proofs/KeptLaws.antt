@@ -4,10 +4,10 @@
 --   unkept_unique     there is one answer to which it is
 use Prim.Native.Nat.{ℕ, ◌^◌, ◌≤◌, ◌<◌}
 use mathlib.Core.Path.{◌≡◌, refl, sym, ap, ◌∙◌}
-use mathlib.Core.Bool.{Bool, true, false, Bool_discrete}
+use mathlib.Core.Bool.{Bool, true, false, Bool-discrete}
 use mathlib.Core.List.{List}
 use native.Mathlib.Omega.{arith}
-use borrow.Author.Tests.{leb_true, le_leb, lt_leb}
+use borrow.Author.Tests.{leb-true, le-leb, lt-leb}
 use lib.ListN.{length, get_or}
 use Rattle.kinds.specs.Answers.{Says}
 use Rattle.kinds.specs.Decided.{some_below}
@@ -24,8 +24,8 @@ use Rattle.rows.specs.declared.Summed.{Summed}
 
 pub told : (vs ms : List ℕ) (i : ℕ) → get_or ms i 0 ≡ mask vs i → Says (kept_in ms i) (IsKept vs i)
 told vs ms i e = (
-  λ kept. (mask_says vs i).1 (rw e at (leb_true (2 ^ i) (get_or ms i 0) kept)),
-  λ kept. le_leb (2 ^ i) (get_or ms i 0) (rw e ((mask_says vs i).0 kept)),
+  λ kept. (mask_says vs i).1 (rw e at (leb-true (2 ^ i) (get_or ms i 0) kept)),
+  λ kept. le-leb (2 ^ i) (get_or ms i 0) (rw e ((mask_says vs i).0 kept)),
 )
 
 module _ {ms : List ℕ} {r : Summed} (u : FirstUnkept ms r) (vs : List ℕ) where
@@ -35,7 +35,7 @@ module _ {ms : List ℕ} {r : Summed} (u : FirstUnkept ms r) (vs : List ℕ) whe
       let i = first_sum vs in
       let its : (j : ℕ) → j < length vs → get_or ms j 0 ≡ mask vs j = λ j h. same j ∙ masks_at vs j h in
       let own = its i f.inside in
-      let is = u.first i (omega (arith, f.inside)) (lt_leb (2 ^ i) (get_or ms i 0) (rw own f.earlier))
+      let is = u.first i (omega (arith, f.inside)) (lt-leb (2 ^ i) (get_or ms i 0) (rw own f.earlier))
       (λ j h.
       let l : j < length vs = omega (arith, f.inside) in
       (told vs ms j (its j l)).1 ((Is_kept_earlier vs j (omega arith)).1 (f.first j h))) in
@@ -57,4 +57,4 @@ unkept_unique {ms} u w = elim (some_below unkept? (length ms)) [
 ]
   where
     unkept? : (j : ℕ) → Dec (kept_in ms j ≡ false)
-    unkept? j = Bool_discrete (kept_in ms j) false
+    unkept? j = Bool-discrete (kept_in ms j) false

@@ -5,7 +5,7 @@
 --   kept_numbers ms a b kept  of the positions from a to b - 1, those that were kept, or, if kept is false, those that were not; counted from a
 --   units_of ps               2^p for each p of ps, with zeros after them, and how many there are
 use Rattle.std.specs.Prelude.{ℕ, ◌+◌, ◌-◌, ◌^◌, ◌<◌, ◌≡◌, Bool, true, false, List, leb, length, get_or}
-use Rattle.std.proofs.Math.Bool.{Bool_discrete}
+use Rattle.std.proofs.Math.Bool.{Bool-discrete}
 use Rattle.kinds.specs.Search.{those}
 use Rattle.bits.specs.Padded.{padded}
 use Rattle.span.specs.Scan.{units}
@@ -21,7 +21,7 @@ pub record FirstUnkept (ms : List ℕ) (r : Summed) : Type 0 where
 
 unfoldable pub kept_numbers : List ℕ → ℕ → ℕ → Bool → List ℕ
 unfolding those
-kept_numbers ms a b kept = those (λ j. Bool_discrete (kept_in ms (a + j)) kept) (b - a)
+kept_numbers ms a b kept = those (λ j. Bool-discrete (kept_in ms (a + j)) kept) (b - a)
 
 abbrev pub units_of : List ℕ → Listed
 units_of ps = record { units = padded (units ps); count = length ps }

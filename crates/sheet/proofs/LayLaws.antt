@@ -11,10 +11,10 @@
 use Prim.Native.Nat.{ℕ, zero, suc, ◌+◌, ◌-◌, ◌*◌, ◌/◌, ◌%◌, ◌≤◌, ◌<◌}
 use mathlib.Core.Path.{◌≡◌, refl, sym, ap, ap₂, ◌∙◌}
 use mathlib.Core.List.{List, [], ◌∷◌, ◌++◌, append_assoc}
-use native.Mathlib.Numerals.{add_one}
+use native.Mathlib.Numerals.{add-one}
 use native.Mathlib.Omega.{arith}
-use lib.ListN.{length, get_or, set, take, drop, replicate, length_take, length_append}
-use lib.Seq.{take_suc, take_all, take_at, drop_at, drop_drop, get_or_at, get_or_drop}
+use lib.ListN.{length, get_or, set, take, drop, replicate, length-take, length-append}
+use lib.Seq.{take-suc, take_all, take_at, drop_at, drop-drop, get_or_at, get_or-drop}
 use Rattle.kinds.specs.Edition.{Edition, Sized, side_places, sheet_places}
 use Rattle.bits.proofs.ImageLaws.{zeros_at}
 use Rattle.bits.proofs.PaddedLaws.{padded_length, padded_at, padded_unique, padded_snoc}
@@ -40,7 +40,7 @@ module _ (m : ℕ) (l : List ℕ) where
 
 pub padded_used : (m u : ℕ) (l : List ℕ) → length l ≤ m → AllZero (drop u l) → padded_to m l ≡ padded_to m (take u l)
 padded_used m u l few unused =
-    padded_unique m (take u l) (padded_to m l) (omega (arith, length_take u l)) (padded_length m l few) (λ j. padded_at m l j ∙ take_same u l unused j)
+    padded_unique m (take u l) (padded_to m l) (omega (arith, length-take u l)) (padded_length m l few) (λ j. padded_at m l j ∙ take_same u l unused j)
 
 -- stages as they stand on a sheet
 
@@ -56,7 +56,7 @@ pub stage_more : (m : ℕ) (ss : List Stage) (s : Stage) → 2 * length ss + 1 <
     → set (set (padded_to m (flat ss)) (2 * length ss) s.direction) (2 * length ss + 1) s.control ≡ padded_to m (flat (ss ++ (s ∷ [])))
 stage_more m ss s h =
     let half = flat ss ++ (s.direction ∷ []) in
-    let next : length half ≡ 2 * length ss + 1 = omega (arith, length_append (flat ss) (s.direction ∷ []), flat_length ss) in
+    let next : length half ≡ 2 * length ss + 1 = omega (arith, length-append (flat ss) (s.direction ∷ []), flat_length ss) in
     ap₂ (λ (x y : ℕ). set (set (padded_to m (flat ss)) x s.direction) y s.control) (sym (flat_length ss)) (sym next)
     ∙ ap (λ (l : List ℕ). set l (length half) s.control) (padded_snoc m (flat ss) s.direction (omega (arith, flat_length ss)))
     ∙ padded_snoc m half s.control (omega (arith, next))
@@ -69,9 +69,9 @@ flat_part (suc m) l h =
     ∙ flat_snoc (stages_in m l) (stage_at l m)
     ∙ ap (λ (x : List ℕ). x ++ (get_or l (2 * m) 0 ∷ get_or l (2 * m + 1) 0 ∷ [])) (flat_part m l (omega arith))
     ∙ sym (append_assoc (take (2 * m) l) (get_or l (2 * m) 0 ∷ []) (get_or l (2 * m + 1) 0 ∷ []))
-    ∙ ap (λ (x : List ℕ). x ++ (get_or l (2 * m + 1) 0 ∷ [])) (sym (take_suc l (2 * m) 0 (omega arith)))
-    ∙ ap (λ (j : ℕ). take (suc (2 * m)) l ++ (get_or l j 0 ∷ [])) (add_one (2 * m))
-    ∙ sym (take_suc l (suc (2 * m)) 0 (omega arith))
+    ∙ ap (λ (x : List ℕ). x ++ (get_or l (2 * m + 1) 0 ∷ [])) (sym (take-suc l (2 * m) 0 (omega arith)))
+    ∙ ap (λ (j : ℕ). take (suc (2 * m)) l ++ (get_or l j 0 ∷ [])) (add-one (2 * m))
+    ∙ sym (take-suc l (suc (2 * m)) 0 (omega arith))
     ∙ ap (λ (x : ℕ). take x l) {x = suc (suc (2 * m))} {y = 2 * suc m} (omega arith)
 
 pub from_flat : (l : List ℕ) → length l % 2 ≡ 0 → flat (stages_from l) ≡ l
@@ -125,7 +125,7 @@ module _ (e : Edition) (n k : ℕ) (sized : Sized e n k) where
     laid_length : length (laid_out e S) ≡ side_places e
     laid_length =
         let stages_length = padded_length room (flat S.stages) (omega (arith, flat_length S.stages, s.stages)) in
-        omega (arith, length_append addresses (wiring ++ from_count), length_append wiring from_count, addresses_length, wiring_length, stages_length)
+        omega (arith, length-append addresses (wiring ++ from_count), length-append wiring from_count, addresses_length, wiring_length, stages_length)
 
     after_addresses : drop e.most_n (laid_out e S) ≡ wiring ++ from_count
     after_addresses = drop_at addresses (wiring ++ from_count) e.most_n addresses_length
@@ -138,16 +138,16 @@ module _ (e : Edition) (n k : ℕ) (sized : Sized e n k) where
 
     after_wiring : drop (e.most_n + e.most_k) (laid_out e S) ≡ from_count
     after_wiring =
-        sym (drop_drop e.most_k e.most_n (laid_out e S)) ∙ ap (drop e.most_k) after_addresses ∙ drop_at wiring from_count e.most_k wiring_length
+        sym (drop-drop e.most_k e.most_n (laid_out e S)) ∙ ap (drop e.most_k) after_addresses ∙ drop_at wiring from_count e.most_k wiring_length
 
     laid_count : count_place e (laid_out e S) ≡ length S.stages
     laid_count =
-        sym (get_or_drop e.most_n (laid_out e S) e.most_k 0)
+        sym (get_or-drop e.most_n (laid_out e S) e.most_k 0)
         ∙ ap (λ (l : List ℕ). get_or l e.most_k 0) after_addresses
         ∙ get_or_at wiring (length S.stages) stages 0 e.most_k wiring_length
 
     laid_stages : stage_places e (laid_out e S) ≡ stages
-    laid_stages = sym (drop_drop 1 (e.most_n + e.most_k) (laid_out e S)) ∙ ap (drop 1) after_wiring
+    laid_stages = sym (drop-drop 1 (e.most_n + e.most_k) (laid_out e S)) ∙ ap (drop 1) after_wiring
 
     laid_side : side_of e n k (laid_out e S) ≡ S
     laid_side = same_side
@@ -168,7 +168,7 @@ module _ (e : Edition) (n k : ℕ) (sized : Sized e n k) where
 
   module _ (W R : Side) (write : Layable e n k W) (read : Layable e n k R) where
     pub sheet_length : length (sheet_of e W R) ≡ sheet_places e
-    sheet_length = omega (arith, length_append (laid_out e W) (laid_out e R), laid_length W write, laid_length R read)
+    sheet_length = omega (arith, length-append (laid_out e W) (laid_out e R), laid_length W write, laid_length R read)
 
     write_part : write_places e (sheet_of e W R) ≡ laid_out e W
     write_part = take_at (laid_out e W) (laid_out e R) (side_places e) (laid_length W write)

@@ -10,13 +10,13 @@
 --   pow_injective_le      powers of two are in the order of their exponents
 --   injective_width       no injective map from a bits into b bits unless a ≤ b
 --   onto_width            no map from s bits onto k bits unless k ≤ s
-use Prim.Native.Nat.{ℕ, zero, suc, ◌-◌, ◌^◌, ◌≤◌, ◌<◌, zero_le}
+use Prim.Native.Nat.{ℕ, zero, suc, ◌-◌, ◌^◌, ◌≤◌, ◌<◌, zero-le}
 use mathlib.Core.Path.{◌≡◌, sym, ◌∙◌}
 use mathlib.Core.Logic.{◌≢◌}
 use native.Mathlib.Nat.{le_step, ne_of_lt}
 use native.Mathlib.Decide.{ℕ_discrete, dec_le, dec_lt}
 use native.Mathlib.Omega.{arith}
-use lib.Pow.{pow_lt}
+use lib.Pow.{pow-lt}
 use Rattle.span.specs.Maps.{Into, Injective, Onto, Bijection}
 use Rattle.kinds.specs.Decided.{some_below}
 
@@ -53,7 +53,7 @@ redirected {f} {b} {y} into injective h missed = (
     top? i = ℕ_discrete (f i) (b - 1)
 
 pub pigeonhole : {f : ℕ → ℕ} {a b : ℕ} → Into f a b → Injective f a → a ≤ b
-pigeonhole {a = zero} into injective = zero_le
+pigeonhole {a = zero} into injective = zero-le
 pigeonhole {f} {a = suc a} into injective =
     let last : a < suc a = omega arith in
     let missed : (i : ℕ) → i < a → f i ≢ f a = λ i h e. ne_of_lt h (injective i a (le_step h) last e) in
@@ -101,7 +101,7 @@ bijection_inverse {f} b =
     (g.0, g.1, g.3, λ x h. b.injective (g.0 (f x)) x (g.1 (f x) (b.into x h)) h (g.3 (f x) (b.into x h)))
 
 pub pow_injective_le : {a b : ℕ} → 2 ^ a ≤ 2 ^ b → a ≤ b
-pow_injective_le {a} {b} h = elim (dec_le a b) [ yes l ↦ l | no nl ↦ absurd (omega (arith, pow_lt {i = b} {j = a} (omega arith))) ]
+pow_injective_le {a} {b} h = elim (dec_le a b) [ yes l ↦ l | no nl ↦ absurd (omega (arith, pow-lt {i = b} {j = a} (omega arith))) ]
 
 pub injective_width : {f : ℕ → ℕ} {a b : ℕ} → Into f (2 ^ a) (2 ^ b) → Injective f (2 ^ a) → a ≤ b
 injective_width into injective = pow_injective_le (pigeonhole into injective)

@@ -14,10 +14,10 @@ use mathlib.Core.List.{List, [], ◌∷◌}
 use mathlib.Core.Logic.{◌≢◌}
 use native.Mathlib.Decide.{ℕ_discrete}
 use native.Mathlib.Omega.{arith}
-use native.Mathlib.Nat.{pow_suc}
+use native.Mathlib.Nat.{pow-suc}
 use lib.Bits.{bit_xor, xor_self, xor_lt, xor_add_and, and_mask}
 use lib.ListN.{length, get_or}
-use lib.Pow.{pow_pos, pow_lt}
+use lib.Pow.{pow_pos, pow-lt}
 use Rattle.bits.specs.Image.{chosen, image, AllBelow, columns}
 use Rattle.bits.specs.Parity.{bit, dot}
 use Rattle.bits.proofs.ParityLaws.{bit_same, bit_other, dot_lt, dot_comm, dot_zero, dot_xor_right}
@@ -41,13 +41,13 @@ image_low r rs b m h =
 
 pub independent_tail : (r : ℕ) (rs : List ℕ) → Independent (r ∷ rs) → Independent rs
 independent_tail r rs h = λ m l e.
-    omega (arith, h (0 + 2 * m) (omega (arith, pow_suc 2 (length rs))) (image_low r rs 0 m (omega arith) ∙ e))
+    omega (arith, h (0 + 2 * m) (omega (arith, pow-suc 2 (length rs))) (image_low r rs 0 m (omega arith) ∙ e))
 
 pub independent_head : (r : ℕ) (rs : List ℕ) → Independent (r ∷ rs) → ¬ SumOf rs r
 independent_head r rs h s =
     omega (
       arith,
-      h (1 + 2 * s.selected) (omega (arith, s.below, pow_suc 2 (length rs)))
+      h (1 + 2 * s.selected) (omega (arith, s.below, pow-suc 2 (length rs)))
           (image_low r rs 1 s.selected (omega arith) ∙ rw s.sum (xor_self r)),
     )
 
@@ -129,7 +129,7 @@ solutions_duals k rs solve =
       vectors = columns (length rs) f;
       count = columns_length (length rs) f;
       below = λ j h. rw (columns_at (length rs) f j (rw columns_length at h)) (solve (2 ^ j)).1;
-      dual = λ j h. rw (columns_at (length rs) f j h) ((solve (2 ^ j)).2 (pow_lt h));
+      dual = λ j h. rw (columns_at (length rs) f j h) ((solve (2 ^ j)).2 (pow-lt h));
     }
 
 -- the sum of the old duals that s / 2 selects, with x added where the new row r then differs from s
@@ -145,7 +145,7 @@ solved {k} r {rs} d (x, x_lt, only) s = mend (ℕ_discrete (dots (r ∷ rs) y) s
     mended : dots (r ∷ rs) y ≢ s → s < 2 ^ suc (length rs) → bit_xor (dots (r ∷ rs) y) 1 ≡ s
     mended differs l =
         let D : ℕ = dots (r ∷ rs) y in
-        let half : dots rs y ≡ s / 2 = rows_of_duals k rs d (s / 2) (omega (arith, pow_suc 2 (length rs))) in
+        let half : dots rs y ≡ s / 2 = rows_of_duals k rs d (s / 2) (omega (arith, pow-suc 2 (length rs))) in
         omega (arith, dots_cons r rs y, dot_lt r y, xor_add_and D 1, and_mask D 1)
 
     mend : Dec (dots (r ∷ rs) y ≡ s) → Solved k (r ∷ rs) s

@@ -6,8 +6,8 @@ use Prim.Native.Nat.{ℕ, ◌^◌, ◌≤◌, ◌<◌}
 use mathlib.Core.Path.{◌≡◌, sym, ap, ◌∙◌}
 use mathlib.Core.List.{List}
 use native.Mathlib.Omega.{arith}
-use lib.ListN.{length, get_or, take, drop, take_append_drop}
-use lib.Seq.{length_take_le}
+use lib.ListN.{length, get_or, take, drop, take-append-drop}
+use lib.Seq.{length-take-le}
 use Rattle.kinds.specs.Decided.{some_below}
 use Rattle.kinds.proofs.SearchLaws.{found_has, found_first, found_least}
 use Rattle.bits.specs.Image.{image}
@@ -45,10 +45,10 @@ module _ {vs : List ℕ} {i m : ℕ} (f : FirstSum vs i m) where
   within = omega (arith, f.inside)
 
   count : length (take i vs) ≡ i
-  count = length_take_le i vs within
+  count = length-take-le i vs within
 
   earlier_image : (x : ℕ) → x < 2 ^ i → image (take i vs) x ≡ image vs x
-  earlier_image x h = sym (image_prefix (take i vs) (drop i vs) x (rw count h)) ∙ ap (λ (l : List ℕ). image l x) (take_append_drop i vs)
+  earlier_image x h = sym (image_prefix (take i vs) (drop i vs) x (rw count h)) ∙ ap (λ (l : List ℕ). image l x) (take-append-drop i vs)
 
   is_sum : SumOf (take i vs) (get_or vs i 0)
   is_sum = record { selected = m; below = rw count f.earlier; sum = earlier_image m f.earlier ∙ f.sum }
@@ -61,7 +61,7 @@ module _ {vs : List ℕ} {i m : ℕ} (f : FirstSum vs i m) where
       all_kept_independent (take i vs)
       (λ j h.
       let l : j < i = rw count at h in
-      (Is_kept_prefix (take i vs) (drop i vs) j h).0 (rw (take_append_drop i vs) ((Is_kept_earlier vs j (omega (arith, within))).1 (f.first j l))))
+      (Is_kept_prefix (take i vs) (drop i vs) j h).0 (rw (take-append-drop i vs) ((Is_kept_earlier vs j (omega (arith, within))).1 (f.first j l))))
 
   pub first_dependent : ¬ Independent vs
   first_dependent = dependent_at vs i f.inside sum_before

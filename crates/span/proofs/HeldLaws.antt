@@ -16,13 +16,13 @@ use mathlib.Core.Path.{◌≡◌, refl, sym, ap, ap₂, ◌∙◌}
 use mathlib.Core.List.{List, [], ◌∷◌, ◌++◌}
 use mathlib.Core.Logic.{◌≢◌, ◌⊎◌, inl, inr}
 use native.Mathlib.Decide.{ℕ_discrete, dec_lt}
-use native.Mathlib.Nat.{div_eq_of_lt}
+use native.Mathlib.Nat.{div-eq_of_lt}
 use native.Mathlib.Omega.{arith}
 use lib.Bits.{bit_xor, xor_comm, xor_self, xor_zero_r, xor_shr, xor_mod, xor_shifted}
 use lib.Count.{count_leading_zeros, leading_of_zero}
-use lib.ListN.{length, get_or, set, length_set, replicate}
-use lib.Pow.{pow_lt, high, low, shl_shr}
-use lib.Seq.{get_or_set_same, get_or_set_other}
+use lib.ListN.{length, get_or, set, length-set, replicate}
+use lib.Pow.{pow-lt, high, low, shl-shr}
+use lib.Seq.{get_or-set_same, get_or-set_other}
 use Rattle.bits.specs.Image.{image, AllBelow}
 use Rattle.bits.proofs.XorLaws.{xor_assoc, xor_cancel, xor_swap, xor_zero_eq}
 use Rattle.bits.proofs.ImageLaws.{zeros_at, below_append, below_one, image_nil, image_zero, image_xor, image_lt, image_prefix}
@@ -72,7 +72,7 @@ pub row_left : {e : ℕ} → 2 ^ width ≤ e → row_of e ≢ 0
 row_left {e} h z = omega (arith, z)
 
 left_row : {e : ℕ} → row_of e ≢ 0 → 2 ^ width ≤ e
-left_row {e} n = elim (dec_lt e (2 ^ width)) [ yes l ↦ absurd (n (div_eq_of_lt l)) | no m ↦ omega arith ]
+left_row {e} n = elim (dec_lt e (2 ^ width)) [ yes l ↦ absurd (n (div-eq_of_lt l)) | no m ↦ omega arith ]
 
 pub row_place : {e : ℕ} → e < 2 ^ (width + width) → 2 ^ width ≤ e → count_leading_zeros (width + width) e < width
 row_place {e} fits long = rw (row_high fits long) (leading_lt width (row_of e) (omega arith) (row_left long))
@@ -151,7 +151,7 @@ module _ {vs : List ℕ} (v : ℕ) {m : ℕ} (short : m < 2 ^ width) (a : MadeOf
 
 -- what was taken from v is a sum of those kept; were v one, so would be the row that is left
 taken : {vs : List ℕ} (v left : ℕ) → MadeOf vs (bit_xor (v * 2 ^ width) left) → SumOf (kept vs) (bit_xor v (row_of left))
-taken v left a = rw (xor_shr (v * 2 ^ width) left width ∙ ap (λ (x : ℕ). bit_xor x (row_of left)) (shl_shr v width)) at (made_sum a)
+taken v left a = rw (xor_shr (v * 2 ^ width) left width ∙ ap (λ (x : ℕ). bit_xor x (row_of left)) (shl-shr v width)) at (made_sum a)
 
 pub no_sum : {es vs : List ℕ} (v left : ℕ) → Echelon es vs → MadeOf vs (bit_xor (v * 2 ^ width) left) → row_of left ≢ 0
     → get_or es (count_leading_zeros width (row_of left)) 0 ≡ 0 → ¬ SumOf (kept vs) v
@@ -168,7 +168,7 @@ module _ {es vs : List ℕ} {v left own : ℕ} (fits : v < 2 ^ width) (wide : le
   new_at y = get_or (set es z (bit_xor left own)) y 0
 
   own_short : own < 2 ^ width
-  own_short = omega (arith, pow_lt {i = length vs} {j = width} room)
+  own_short = omega (arith, pow-lt {i = length vs} {j = width} room)
 
   rest_fits : row_of left < 2 ^ width
   rest_fits = omega arith
@@ -189,13 +189,13 @@ module _ {es vs : List ℕ} {v left own : ℕ} (fits : v < 2 ^ width) (wide : le
       rw (xor_swap top left top own ∙ ap (λ (x : ℕ). bit_xor x (bit_xor left own)) (xor_self top)) at (made_xor (made_more vs v a) by_own)
 
   row_rest : row_of (bit_xor left own) ≡ row_of left
-  row_rest = xor_shr left own width ∙ ap (bit_xor (row_of left)) (div_eq_of_lt own_short) ∙ xor_zero_r (row_of left)
+  row_rest = xor_shr left own width ∙ ap (bit_xor (row_of left)) (div-eq_of_lt own_short) ∙ xor_zero_r (row_of left)
 
   at_z : new_at z ≡ bit_xor left own
-  at_z = get_or_set_same es z (bit_xor left own) 0 (omega (arith, leading_lt width (row_of left) rest_fits rest, h.places))
+  at_z = get_or-set_same es z (bit_xor left own) 0 (omega (arith, leading_lt width (row_of left) rest_fits rest, h.places))
 
   at_other : (y : ℕ) → y ≢ z → new_at y ≡ get_or es y 0
-  at_other y n = get_or_set_other es z y (bit_xor left own) 0 n
+  at_other y n = get_or-set_other es z y (bit_xor left own) 0 n
 
   leading_new : (y : ℕ) → new_at y ≢ 0 → count_leading_zeros width (row_of (new_at y)) ≡ y
   leading_new y there = elim (ℕ_discrete y z) [
@@ -257,7 +257,7 @@ module _ {es vs : List ℕ} {v left own : ℕ} (fits : v < 2 ^ width) (wide : le
 
   pub echelon_new : Echelon (set es z (bit_xor left own)) (vs ++ (v ∷ []))
   echelon_new = record {
-    places = length_set es z (bit_xor left own) ∙ h.places;
+    places = length-set es z (bit_xor left own) ∙ h.places;
     narrow = narrow_more vs v fits h.narrow;
     leading = leading_new;
     sound = sound_new;

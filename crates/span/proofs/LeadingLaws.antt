@@ -8,10 +8,10 @@ use mathlib.Core.Path.{◌≡◌, sym, ap, ap₂, ◌∙◌}
 use mathlib.Core.Logic.{◌≢◌}
 use native.Mathlib.Decide.{dec_lt}
 use native.Mathlib.Omega.{arith}
-use native.Mathlib.Nat.{pow_suc, lt_of_lt_of_le}
+use native.Mathlib.Nat.{pow-suc, lt_of_lt_of_le}
 use lib.Bits.{bit_xor, xor_block, xor_lt}
 use lib.Count.{count_leading_zeros, leading_top, leading_unique, leading_length, leading_of_zero}
-use lib.Pow.{pow_pos, pow_mono, pow_add, shr_lt, shr_mono, shl_shr}
+use lib.Pow.{pow_pos, pow_mono, pow-add, shr_lt, shr_mono, shl-shr}
 
 -- a number with fewer than k leading zeros is its highest bit and a rest
 top : (k a : ℕ) → a < 2 ^ k → count_leading_zeros k a < k
@@ -19,7 +19,7 @@ top : (k a : ℕ) → a < 2 ^ k → count_leading_zeros k a < k
 top k zero h l = absurd (omega (arith, leading_of_zero k))
 top k (suc n) h l =
     let t = leading_top k (suc n) (omega arith) h in
-    (t.0, t.1, suc n - 2 ^ t.0, omega (arith, t.3, pow_suc 2 t.0), omega (arith, t.2))
+    (t.0, t.1, suc n - 2 ^ t.0, omega (arith, t.3, pow-suc 2 t.0), omega (arith, t.2))
 
 tops_cancel : (j r s : ℕ) → r < 2 ^ j → s < 2 ^ j → bit_xor (2 ^ j + r) (2 ^ j + s) ≡ bit_xor r s
 tops_cancel j r s hr hs =
@@ -53,7 +53,7 @@ leading_xor k a b ha hb l =
     let short : b < 2 ^ t.0 = lt_of_lt_of_le s.2 (pow_mono (omega (arith, s.1, t.1))) in
     let split : bit_xor a b ≡ 2 ^ t.0 + bit_xor t.2 b = ap (λ (x : ℕ). bit_xor x b) t.4 ∙ top_stays t.0 t.2 b t.3 short in
     let low : bit_xor t.2 b < 2 ^ t.0 = xor_lt t.0 t.2 b t.3 short in
-    sym (leading_unique k (bit_xor a b) (count_leading_zeros k a) (suc t.0) t.1 (omega (arith, split, pow_suc 2 t.0)) (omega (arith, split, pow_suc 2 t.0)))
+    sym (leading_unique k (bit_xor a b) (count_leading_zeros k a) (suc t.0) t.1 (omega (arith, split, pow-suc 2 t.0)) (omega (arith, split, pow-suc 2 t.0)))
 
 pub leading_high : (k j a : ℕ) → a < 2 ^ (k + j) → 2 ^ j ≤ a → count_leading_zeros (k + j) a ≡ count_leading_zeros k (a / 2 ^ j)
 leading_high k j a h l =
@@ -63,5 +63,5 @@ leading_high k j a h l =
     let sum : suc t.0 ≡ suc d + j = omega arith in
     let above : a / 2 ^ j < 2 ^ suc d = shr_lt (suc d) j (rw (sum) at t.3) in
     let whole : t.0 ≡ d + j = omega arith in
-    let below : 2 ^ d ≤ a / 2 ^ j = rw (shl_shr (2 ^ d) j) at (shr_mono j (rw (whole, pow_add 2 d j) at t.2)) in
-    leading_unique k (a / 2 ^ j) (count_leading_zeros (k + j) a) (suc d) (omega (arith, t.1, reach)) above (omega (arith, pow_suc 2 d, below))
+    let below : 2 ^ d ≤ a / 2 ^ j = rw (shl-shr (2 ^ d) j) at (shr_mono j (rw (whole, pow-add 2 d j) at t.2)) in
+    leading_unique k (a / 2 ^ j) (count_leading_zeros (k + j) a) (suc d) (omega (arith, t.1, reach)) above (omega (arith, pow-suc 2 d, below))

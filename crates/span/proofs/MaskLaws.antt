@@ -12,14 +12,14 @@
 --   mask_prefix              the masks of a list's beginning are the first of its masks
 use Prim.Native.Nat.{ℕ, suc, ◌^◌, ◌≤◌, ◌<◌}
 use mathlib.Core.Path.{◌≡◌, refl, sym, ap, ap₂, ◌∙◌}
-use mathlib.Core.List.{List, [], ◌∷◌, ◌++◌, map, map_append}
+use mathlib.Core.List.{List, [], ◌∷◌, ◌++◌, map, map-append}
 use mathlib.Core.Logic.{⊎_elim, ◌↔◌}
 use native.Mathlib.Decide.{ℕ_discrete}
-use native.Mathlib.Nat.{pow_suc}
+use native.Mathlib.Nat.{pow-suc}
 use native.Mathlib.Omega.{arith}
 use lib.Bits.{bit_xor, xor_self, xor_lt}
-use lib.ListN.{length, get_or, length_map, get_or_append}
-use lib.Pow.{pow_lt, pow_mono}
+use lib.ListN.{length, get_or, length-map, get_or-append}
+use lib.Pow.{pow-lt, pow_mono}
 use Rattle.kinds.specs.Decided.{both}
 use Rattle.kinds.proofs.SearchLaws.{found_has}
 use Rattle.kinds.proofs.FrameLaws.{in_order_length, in_order_at}
@@ -41,12 +41,12 @@ image_over vs ps m = image_image vs (units ps) m ∙ ap (λ (cs : List ℕ). ima
 
 pub over_below : (i : ℕ) (ps : List ℕ) → AllBelow i ps → (m : ℕ) → over ps m < 2 ^ i
 over_below i ps b m =
-    image_lt i (units ps) (λ l h. let k : l < length ps = rw length_map at h in rw (units_at ps l k) (pow_lt (b l k))) m
+    image_lt i (units ps) (λ l h. let k : l < length ps = rw length-map at h in rw (units_at ps l k) (pow-lt (b l k))) m
 
 module _ (vs : List ℕ) (i : ℕ) where
   own_unit : IsKept vs i → SumOf (units (kept_at vs (suc i))) (2 ^ i)
   own_unit k =
-      rw (kept_at_new vs i k, map_append (λ p. 2 ^ p) (kept_at vs i) (i ∷ [])) (sum_right (units (kept_at vs i)) (sum_member (2 ^ i ∷ []) 0))
+      rw (kept_at_new vs i k, map-append (λ p. 2 ^ p) (kept_at vs i) (i ∷ [])) (sum_right (units (kept_at vs i)) (sum_member (2 ^ i ∷ []) 0))
 
   module _ (t : SumBefore vs i) where
     abbrev earlier : ℕ
@@ -64,8 +64,8 @@ module _ (vs : List ℕ) (i : ℕ) where
   -- the mask 2^i where number i is kept, else the one that makes it a sum of those before
   some_mask : (m : ℕ) × (m < 2 ^ suc i) × ((image vs m ≡ get_or vs i 0) × SumOf (units (kept_at vs (suc i))) m)
   some_mask = ⊎_elim
-      (λ k. (2 ^ i, pow_lt (omega arith), (image_unit vs i, own_unit k)))
-      (λ t. (earlier t, omega (arith, earlier_lt t, pow_suc 2 i), (earlier_sum t, earlier_over t)))
+      (λ k. (2 ^ i, pow-lt (omega arith), (image_unit vs i, own_unit k)))
+      (λ t. (earlier t, omega (arith, earlier_lt t, pow-suc 2 i), (earlier_sum t, earlier_over t)))
       (kept_or_sum vs i)
 
   mask_has : (mask vs i < 2 ^ suc i) × ((image vs (mask vs i) ≡ get_or vs i 0) × SumOf (units (kept_at vs (suc i))) (mask vs i))
@@ -91,7 +91,7 @@ module _ (vs : List ℕ) (i : ℕ) where
       ∙ t.sum
     where
       short : {m : ℕ} (s : SumOf (units (kept_at vs n)) m) → s.selected < 2 ^ length (members vs (kept_at vs n))
-      short s = rw (length_map (kept_at vs n) (λ p. get_or vs p 0), ← units_length (kept_at vs n)) s.below
+      short s = rw (length-map (kept_at vs n) (λ p. get_or vs p 0), ← units_length (kept_at vs n)) s.below
 
       selects : {m : ℕ} (s : SumOf (units (kept_at vs n)) m) → image (members vs (kept_at vs n)) s.selected ≡ image vs m
       selects s = sym (image_over vs (kept_at vs n) s.selected) ∙ ap (image vs) s.sum
@@ -108,7 +108,7 @@ module _ (vs : List ℕ) (i : ℕ) where
   pub dependent_at : i < length vs → SumBefore vs i → ¬ Independent vs
   dependent_at h t ind =
       let low = mask_before t in
-      let up : 2 ^ i < 2 ^ length vs = pow_lt h in
+      let up : 2 ^ i < 2 ^ length vs = pow-lt h in
       let none : image vs (bit_xor (mask vs i) (2 ^ i)) ≡ 0 = image_xor vs (mask vs i) (2 ^ i) ∙ ap₂ bit_xor mask_sum (image_unit vs i) ∙ xor_self (get_or vs i 0) in
       let small = xor_lt (length vs) (mask vs i) (2 ^ i) (omega (arith, low, up)) up in
       omega (arith, low, xor_zero_eq (mask vs i) (2 ^ i) (ind (bit_xor (mask vs i) (2 ^ i)) small none))
@@ -126,4 +126,4 @@ pub mask_prefix : (vs ws : List ℕ) (i : ℕ) → i < length vs → mask (vs ++
 mask_prefix vs ws i h =
     let short : mask vs i < 2 ^ length vs = omega (arith, mask_lt vs i, pow_mono {i = suc i} {j = length vs} h) in
     sym (mask_unique (vs ++ ws) i {n = suc i} (omega arith) (rw (kept_at_prefix vs ws (suc i) h) (mask_over vs i))
-    (image_prefix vs ws (mask vs i) short ∙ mask_sum vs i ∙ sym (get_or_append vs ws 0 i h)))
+    (image_prefix vs ws (mask vs i) short ∙ mask_sum vs i ∙ sym (get_or-append vs ws 0 i h)))

@@ -4,12 +4,12 @@
 --   others_independent the units of the positions that are not kept are independent--   sum_by_bits        the kept numbers whose positions are in the mask of number j have number j as their sum
 use Prim.Native.Nat.{ℕ, zero, suc, ◌^◌, ◌<◌}
 use mathlib.Core.Path.{◌≡◌, sym, ap, ◌∙◌}
-use mathlib.Core.List.{List, [], ◌∷◌, map_append}
+use mathlib.Core.List.{List, [], ◌∷◌, map-append}
 use mathlib.Core.Logic.{◌≢◌}
 use native.Mathlib.Decide.{ℕ_discrete, dec_lt}
 use native.Mathlib.Omega.{arith}
-use lib.ListN.{length, get_or, length_map}
-use lib.Pow.{pow_lt}
+use lib.ListN.{length, get_or, length-map}
+use lib.Pow.{pow-lt}
 use Rattle.kinds.specs.Search.{with_if, those}
 use Rattle.kinds.proofs.SearchLaws.{those_at}
 use Rattle.bits.specs.Image.{image}
@@ -46,9 +46,9 @@ module _ (vs : List ℕ) (i : ℕ) where
   -- 2^p selects, of the units of the kept positions, the one of p
   units_dual : (s : ℕ) → s < length ps → dots (units ps) (2 ^ get_or ps s 0) ≡ 2 ^ s
   units_dual s h =
-      by_bits (length ps) (dots (units ps) (2 ^ get_or ps s 0)) (2 ^ s) (rw length_map at (dots_lt (units ps) (2 ^ get_or ps s 0))) (pow_lt h)
+      by_bits (length ps) (dots (units ps) (2 ^ get_or ps s 0)) (2 ^ s) (rw length-map at (dots_lt (units ps) (2 ^ get_or ps s 0))) (pow-lt h)
       (λ l k.
-      dots_bit (units ps) (2 ^ get_or ps s 0) l (rw length_map k)
+      dots_bit (units ps) (2 ^ get_or ps s 0) l (rw length-map k)
       ∙ ap (λ (u : ℕ). dot u (2 ^ get_or ps s 0)) (units_at ps l k)
       ∙ dot_unit (get_or ps s 0) (2 ^ get_or ps l 0)
       ∙ at l k (ℕ_discrete l s))
@@ -68,7 +68,7 @@ over_none ps i y none =
   where
     apart : (l : ℕ) → l < length (units ps) → dot (get_or (units ps) l 0) (2 ^ i) ≡ 0
     apart l h =
-        let k : l < length ps = rw length_map at h in
+        let k : l < length ps = rw length-map at h in
         dot_unit i (get_or (units ps) l 0) ∙ ap (bit i) (units_at ps l k) ∙ bit_other i (get_or ps l 0) (none l k)
 
 pub units_none : (ps : List ℕ) (x : ℕ) → dots (units ps) x ≡ 0 → (l : ℕ) → l < length ps → bit (get_or ps l 0) x ≡ 0
@@ -85,7 +85,7 @@ those_independent {P} P? (suc n) = go (P? n) (those_independent P? n)
     go : (d : Dec (P n)) → Independent (units (those P? n)) → Independent (units (with_if d (those P? n) n))
     go (no not) rest = rest
     go (yes p) rest =
-        rw (map_append (λ (i : ℕ). 2 ^ i) (those P? n) (n ∷ []))
+        rw (map-append (λ (i : ℕ). 2 ^ i) (those P? n) (n ∷ []))
         (independent_snoc (units (those P? n)) (2 ^ n) rest
         (λ s. omega (arith, over_below n (those P? n) (λ l h. (those_at P? n l h).0) s.selected, s.sum)))
 
@@ -98,6 +98,6 @@ pub sum_by_bits : (vs : List ℕ) (j x : ℕ) → j < length vs → x < 2 ^ leng
 unfolding kept
 sum_by_bits vs j x h below same =
     let m = kept_at_more vs (λ p. 2 ^ p) h (mask_over vs j) in
-    let selected : x ≡ m.selected = by_bits (length (kept_at vs (length vs))) x m.selected below (rw length_map at m.below)
+    let selected : x ≡ m.selected = by_bits (length (kept_at vs (length vs))) x m.selected below (rw length-map at m.below)
     (λ s k. same s k ∙ ap (bit (get_or (kept_at vs (length vs)) s 0)) (sym m.sum) ∙ over_bit vs (length vs) s m.selected k) in
     rw selected (sym (image_over vs (kept_at vs (length vs)) m.selected) ∙ ap (image vs) m.sum ∙ mask_sum vs j)

@@ -21,8 +21,8 @@ use mathlib.Core.List.{List, ◌++◌, map}
 use native.Mathlib.Nat.{le_antisymm}
 use native.Mathlib.Omega.{arith}
 use lib.Bits.{bit_xor}
-use lib.Pow.{pow_lt}
-use lib.ListN.{length, get_or, length_map, length_append}
+use lib.Pow.{pow-lt}
+use lib.ListN.{length, get_or, length-map, length-append}
 use Rattle.bits.specs.Image.{image, AllBelow, Linear, columns}
 use Rattle.bits.proofs.ImageLaws.{image_zero, linear_image, columns_length, columns_at, columns_below, columns_map}
 use Rattle.kinds.proofs.SearchLaws.{those_count}
@@ -45,7 +45,7 @@ kept_sum vs j h = scanned_sum vs h
 pub kept_member : (vs : List ℕ) (l : ℕ) → l < length (kept vs) → SumOf vs (get_or (kept vs) l 0)
 unfolding kept
 kept_member vs l h =
-    let k : l < length (kept_at vs (length vs)) = rw length_map at h in
+    let k : l < length (kept_at vs (length vs)) = rw length-map at h in
     rw (members_at vs (kept_at vs (length vs)) l k) (sum_member vs (get_or (kept_at vs (length vs)) l 0))
 
 pub rank_le_length : (vs ds : List ℕ) → ((j : ℕ) → j < length vs → SumOf ds (get_or vs j 0)) → rank vs ≤ length ds
@@ -66,7 +66,7 @@ rank_span vs ws there back = le_antisymm (rank_le vs ws there) (rank_le ws vs ba
 pub kept_all_below : (b : ℕ) (vs : List ℕ) → AllBelow b vs → AllBelow b (kept vs)
 unfolding kept
 kept_all_below b vs below l h =
-    let k : l < length (kept_at vs (length vs)) = rw length_map at h in
+    let k : l < length (kept_at vs (length vs)) = rw length-map at h in
     rw (members_at vs (kept_at vs (length vs)) l k) (below (get_or (kept_at vs (length vs)) l 0) (kept_at_below vs (length vs) l k))
 
 pub rank_width : (k : ℕ) (vs : List ℕ) → AllBelow (2 ^ k) vs → rank vs ≤ k
@@ -97,7 +97,7 @@ rank_independent vs full m h e =
 
 pub rank_positions : (vs : List ℕ) → rank vs ≡ length (kept_at vs (length vs))
 unfolding rank kept
-rank_positions vs = length_map (kept_at vs (length vs)) (λ p. get_or vs p 0)
+rank_positions vs = length-map (kept_at vs (length vs)) (λ p. get_or vs p 0)
 
 pub others_count : (vs : List ℕ) → rank vs + length (others vs) ≡ length vs
 unfolding others
@@ -133,12 +133,12 @@ bijection_rank k f linear b =
 pub rank_same : (k : ℕ) (f g : ℕ → ℕ) → ((p : ℕ) → p < 2 ^ k → f p ≡ g p) → rank (columns k f) ≤ rank (columns k g)
 rank_same k f g same =
     rank_le (columns k f) (columns k g)
-    (columns_sum k f (λ j h. rw (same (2 ^ j) (pow_lt h) ∙ sym (columns_at k g j h)) (sum_member (columns k g) j)))
+    (columns_sum k f (λ j h. rw (same (2 ^ j) (pow-lt h) ∙ sym (columns_at k g j h)) (sum_member (columns k g) j)))
 
 pub rank_xor : (n : ℕ) (f g : ℕ → ℕ) → rank (columns n (λ x. bit_xor (f x) (g x))) ≤ rank (columns n f) + rank (columns n g)
 unfolding rank
 rank_xor n f g =
-    rw (← length_append (kept (columns n f)) (kept (columns n g)))
+    rw (← length-append (kept (columns n f)) (kept (columns n g)))
     (rank_le_length (columns n (λ x. bit_xor (f x) (g x))) (kept (columns n f) ++ kept (columns n g))
     (columns_sum n (λ x. bit_xor (f x) (g x))
     (λ j h. sum_xor (sum_left (kept (columns n g)) (value_sum n f j h)) (sum_right (kept (columns n f)) (value_sum n g j h)))))
@@ -146,7 +146,7 @@ rank_xor n f g =
 pub rank_after_inner : (n : ℕ) (f g : ℕ → ℕ) → Linear g → rank (columns n (λ x. g (f x))) ≤ rank (columns n f)
 unfolding rank
 rank_after_inner n f g linear =
-    rw (← length_map (kept (columns n f)) g)
+    rw (← length-map (kept (columns n f)) g)
     (rank_le_length (columns n (λ x. g (f x))) (map g (kept (columns n f)))
     (columns_sum n (λ x. g (f x)) (λ j h. sum_map g linear (value_sum n f j h))))
 
@@ -162,7 +162,7 @@ pub rank_injective : (n m : ℕ) (f g : ℕ → ℕ) → Linear g → Injective 
 unfolding rank
 rank_injective n m f g linear injective into =
     le_antisymm (rank_after_inner n f g linear)
-    (rw (← length_map (kept F) g)
+    (rw (← length-map (kept F) g)
     (independent_le (map g (kept F)) (kept G)
     (map_independent m g linear injective (kept F) (kept_all_below (2 ^ m) F (columns_below n (2 ^ m) f into)) (kept_all_independent F))
     value))
@@ -175,5 +175,5 @@ rank_injective n m f g linear injective into =
 
     value : (l : ℕ) → l < length (map g (kept F)) → SumOf (kept G) (get_or (map g (kept F)) l 0)
     value l h =
-        let k : l < length (kept F) = rw length_map at h in
+        let k : l < length (kept F) = rw length-map at h in
         rw (map_at g (kept F) l k) (span_trans {cs = G} (kept_sum G) (rw (columns_map n f g) at (sum_map g linear (kept_member F l k))))

@@ -26,10 +26,10 @@ use mathlib.Core.Path.{◌≡◌, refl, sym, ap, ap₂, ◌∙◌}
 use mathlib.Core.List.{List, [], ◌∷◌, ◌++◌}
 use mathlib.Core.Logic.{⊎_elim}
 use native.Mathlib.Omega.{arith}
-use native.Mathlib.Nat.{pow_suc}
+use native.Mathlib.Nat.{pow-suc}
 use lib.Bits.{bit_xor}
 use lib.ListN.{length, get_or}
-use lib.Pow.{pow_lt}
+use lib.Pow.{pow-lt}
 use lib.Seq.{ext_get_or}
 use Rattle.kinds.proofs.FrameLaws.{in_order_length, in_order_at, in_order_same}
 use Rattle.bits.specs.Image.{chosen, image, AllBelow, Linear, columns}
@@ -55,7 +55,7 @@ dots_low r rs x = omega (arith, dots_cons r rs x, dot_lt r x)
 
 pub dots_lt : (rs : List ℕ) (x : ℕ) → dots rs x < 2 ^ length rs
 dots_lt [] x = omega (arith, dots_nil x)
-dots_lt (r ∷ rs) x = omega (arith, dots_cons r rs x, dot_lt r x, dots_lt rs x, pow_suc 2 (length rs))
+dots_lt (r ∷ rs) x = omega (arith, dots_cons r rs x, dot_lt r x, dots_lt rs x, pow-suc 2 (length rs))
 
 pub dots_xor : (rs : List ℕ) → Linear (dots rs)
 dots_xor [] x y = simp dots_nil
@@ -93,7 +93,7 @@ dot_image (r ∷ rs) s x =
     ∙ sym (dot_step s (dots (r ∷ rs) x) ∙ rw (dots_half, dots_low))
 
 pub dot_same : (k a b : ℕ) → a < 2 ^ k → b < 2 ^ k → ((x : ℕ) → x < 2 ^ k → dot a x ≡ dot b x) → a ≡ b
-dot_same k a b h l same = by_bits k a b h l (λ j m. sym (dot_unit j a) ∙ same (2 ^ j) (pow_lt m) ∙ dot_unit j b)
+dot_same k a b h l same = by_bits k a b h l (λ j m. sym (dot_unit j a) ∙ same (2 ^ j) (pow-lt m) ∙ dot_unit j b)
 
 pub row_nil : (i : ℕ) → row [] i ≡ 0
 unfolding row

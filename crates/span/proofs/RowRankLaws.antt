@@ -15,7 +15,7 @@ use mathlib.Core.Logic.{◌↔◌}
 use native.Mathlib.Omega.{arith}
 use native.Mathlib.Nat.{le_antisymm, le_trans, le_of_eq}
 use lib.Bits.{bit_xor, xor_self, xor_lt}
-use lib.ListN.{length, get_or, length_map}
+use lib.ListN.{length, get_or, length-map}
 use Rattle.bits.specs.Image.{image, AllBelow, columns}
 use Rattle.bits.specs.Parity.{dot, bit}
 use Rattle.bits.proofs.XorLaws.{xor_zero_eq}
@@ -53,7 +53,7 @@ vanish_at_kept rs x none =
     (vanish_kept rs x).0
     (dots_none (kept rs) x
     (λ l h.
-    let k : l < length ps = rw length_map at h in
+    let k : l < length ps = rw length-map at h in
     ap (λ (r : ℕ). dot r x) (members_at rs ps l k) ∙ sym (dots_bit rs x (get_or ps l 0) (kept_at_below rs (length rs) l k)) ∙ none l k))
 
 pub functional_rows : (k : ℕ) (rs : List ℕ) → AllBelow (2 ^ k) rs → (f : ℕ) → f < 2 ^ k

@@ -22,12 +22,12 @@
 --   members_prefix, kept_at_prefix, Is_kept_prefix    the scan of a list's beginning is the beginning of its scan
 use Prim.Native.Nat.{ℕ, zero, suc, ◌^◌, ◌≤◌, ◌<◌}
 use mathlib.Core.Path.{◌≡◌, refl, sym, ap, ap₂, ◌∙◌}
-use mathlib.Core.List.{List, [], ◌∷◌, ◌++◌, map, map_append, append_nil, append_assoc}
+use mathlib.Core.List.{List, [], ◌∷◌, ◌++◌, map, map-append, append-nil, append_assoc}
 use mathlib.Core.Logic.{◌⊎◌, inl, inr, ⊎_elim, ◌↔◌, ◌≢◌}
 use native.Mathlib.Decide.{le_ind}
 use native.Mathlib.Omega.{arith}
-use lib.ListN.{length, get_or, take, length_map, length_take, length_append, get_or_append}
-use lib.Seq.{get_or_take}
+use lib.ListN.{length, get_or, take, length-map, length-take, length-append, get_or-append}
+use lib.Seq.{get_or-take}
 use Rattle.kinds.specs.Decided.{opposite}
 use Rattle.kinds.specs.Search.{with_if, those}
 use Rattle.kinds.proofs.SearchLaws.{those_new, those_old, those_at, those_ascending}
@@ -52,7 +52,7 @@ abbrev pub over : List ℕ → ℕ → ℕ
 over ps m = image (units ps) m
 
 pub units_length : (ps : List ℕ) → length (units ps) ≡ length ps
-units_length ps = length_map ps (λ p. 2 ^ p)
+units_length ps = length-map ps (λ p. 2 ^ p)
 
 -- ---- one step of the scan
 
@@ -91,7 +91,7 @@ module _ (vs : List ℕ) where
 
   -- what is kept later comes after
   later : {i k : ℕ} → i ≤ k → (ps : List ℕ) × (kept_at vs k ≡ kept_at vs i ++ ps)
-  later {i} {k} h = le_ind (λ (k : ℕ). (ps : List ℕ) × (kept_at vs k ≡ kept_at vs i ++ ps)) ([], sym (append_nil (kept_at vs i)))
+  later {i} {k} h = le_ind (λ (k : ℕ). (ps : List ℕ) × (kept_at vs k ≡ kept_at vs i ++ ps)) ([], sym (append-nil (kept_at vs i)))
       (λ k l (ps, e). ⊎_elim
       (λ new. (ps ++ (k ∷ []), kept_at_new k new ∙ rw e (append_assoc (kept_at vs i) ps (k ∷ []))))
       (λ old. (ps, kept_at_old k old ∙ e))
@@ -99,10 +99,10 @@ module _ (vs : List ℕ) where
       k h
 
   pub kept_at_longer : {i j : ℕ} → i ≤ j → length (kept_at vs i) ≤ length (kept_at vs j)
-  kept_at_longer {i} h = let (ps, e) = later h in rw (e, length_append) (omega arith)
+  kept_at_longer {i} h = let (ps, e) = later h in rw (e, length-append) (omega arith)
 
   pub kept_at_more : (f : ℕ → ℕ) {i k : ℕ} → i ≤ k → {v : ℕ} → SumOf (map f (kept_at vs i)) v → SumOf (map f (kept_at vs k)) v
-  kept_at_more f {i} h s = let (ps, e) = later h in rw (e, map_append f (kept_at vs i) ps) (sum_left (map f ps) s)
+  kept_at_more f {i} h s = let (ps, e) = later h in rw (e, map-append f (kept_at vs i) ps) (sum_left (map f ps) s)
 
 pub others_below : (vs : List ℕ) → AllBelow (length vs) (others vs)
 unfolding others
@@ -117,7 +117,7 @@ kept_apart vs l m h g same = is_kept l h (rw same (those_at (sum_before? vs) (le
     is_kept = rw (kept_those vs (length vs)) (λ l h. (those_at (λ j. opposite (sum_before? vs j)) (length vs) l h).1)
 
 grown : (vs ps : List ℕ) (i : ℕ) → members vs (ps ++ (i ∷ [])) ≡ members vs ps ++ (get_or vs i 0 ∷ [])
-grown vs ps i = map_append (λ p. get_or vs p 0) ps (i ∷ [])
+grown vs ps i = map-append (λ p. get_or vs p 0) ps (i ∷ [])
 
 pub kept_independent : (vs : List ℕ) (i : ℕ) → Independent (members vs (kept_at vs i))
 unfolding kept_at
@@ -139,12 +139,12 @@ scanned_sum vs {j} h = kept_at_more vs (λ p. get_or vs p 0) h (⊎_elim
 
 pub span_earlier : (vs : List ℕ) (i v : ℕ) → i ≤ length vs → SumOf (take i vs) v ↔ SumOf (members vs (kept_at vs i)) v
 span_earlier vs i v h = (
-  span_trans {cs = take i vs} (λ j l. let k : j < i = omega (arith, length_take i vs) in rw (get_or_take i vs j 0 k) (scanned_sum vs k)),
+  span_trans {cs = take i vs} (λ j l. let k : j < i = omega (arith, length-take i vs) in rw (get_or-take i vs j 0 k) (scanned_sum vs k)),
   span_trans {cs = members vs (kept_at vs i)}
       (λ l k.
-      let m : l < length (kept_at vs i) = rw length_map at k in
+      let m : l < length (kept_at vs i) = rw length-map at k in
       let p : ℕ = get_or (kept_at vs i) l 0 in
-      rw (members_at vs (kept_at vs i) l m, ← get_or_take i vs p 0 (kept_at_below vs i l m)) (sum_member (take i vs) p)),
+      rw (members_at vs (kept_at vs i) l m, ← get_or-take i vs p 0 (kept_at_below vs i l m)) (sum_member (take i vs) p)),
 )
 
 pub Is_kept_earlier : (vs : List ℕ) (i : ℕ) → i ≤ length vs → IsKept vs i ↔ (¬ SumOf (take i vs) (get_or vs i 0))
@@ -156,7 +156,7 @@ module _ (vs ws : List ℕ) where
   pub members_prefix : (ps : List ℕ) → AllBelow (length vs) ps → members (vs ++ ws) ps ≡ members vs ps
   members_prefix [] b = refl
   members_prefix (p ∷ ps) b =
-      ap₂ (λ (v : ℕ) (l : List ℕ). v ∷ l) (get_or_append vs ws 0 p (b 0 (omega arith)))
+      ap₂ (λ (v : ℕ) (l : List ℕ). v ∷ l) (get_or-append vs ws 0 p (b 0 (omega arith)))
       (members_prefix ps (λ l h. b (suc l) (omega arith)))
 
   -- what a step of the scan looks at is the same
@@ -164,7 +164,7 @@ module _ (vs ws : List ℕ) where
       → (members (vs ++ ws) (kept_at (vs ++ ws) i) ≡ members vs (kept_at vs i)) × (get_or (vs ++ ws) i 0 ≡ get_or vs i 0)
   same_step {i} h same = (
     ap (members (vs ++ ws)) same ∙ members_prefix (kept_at vs i) (λ l k. omega (arith, kept_at_below vs i l k)),
-    get_or_append vs ws 0 i h,
+    get_or-append vs ws 0 i h,
   )
 
   pub kept_at_prefix : (i : ℕ) → i ≤ length vs → kept_at (vs ++ ws) i ≡ kept_at vs i

@@ -6,11 +6,11 @@
 --   Sum_before_snoc, Is_kept_snoc    v is a sum of those kept before it, or kept, as it is a sum of those kept of vs or not
 use Prim.Native.Nat.{ℕ, suc}
 use mathlib.Core.Path.{◌≡◌, ap, ap₂, ◌∙◌}
-use mathlib.Core.List.{List, [], ◌∷◌, ◌++◌, map_append}
+use mathlib.Core.List.{List, [], ◌∷◌, ◌++◌, map-append}
 use mathlib.Core.Logic.{◌↔◌}
 use native.Mathlib.Omega.{arith}
 use lib.ListN.{length, get_or}
-use lib.Seq.{get_or_append_seam}
+use lib.Seq.{get_or-append_seam}
 use Rattle.span.specs.Sums.{SumOf}
 use Rattle.span.specs.Scan.{members, kept_at, kept}
 use Rattle.span.proofs.SumLaws.{length_snoc}
@@ -21,7 +21,7 @@ module _ (vs : List ℕ) (v : ℕ) where
   more = vs ++ (v ∷ [])
 
   pub next_at : get_or more (length vs) 0 ≡ v
-  next_at = get_or_append_seam vs v [] 0
+  next_at = get_or-append_seam vs v [] 0
 
   pub next_members : members more (kept_at more (length vs)) ≡ kept vs
   unfolding kept
@@ -46,5 +46,5 @@ module _ (vs : List ℕ) (v : ℕ) where
   kept_new new =
       last
       ∙ ap (members more) (kept_at_new more (length vs) (Is_kept_snoc.1 new))
-      ∙ map_append (λ p. get_or more p 0) (kept_at more (length vs)) (length vs ∷ [])
+      ∙ map-append (λ p. get_or more p 0) (kept_at more (length vs)) (length vs ∷ [])
       ∙ ap₂ (λ (cs : List ℕ) (c : ℕ). cs ++ (c ∷ [])) next_members next_at

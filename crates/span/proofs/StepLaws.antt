@@ -7,12 +7,12 @@ use mathlib.Core.Path.{◌≡◌, sym, ap, ap₂, ◌∙◌}
 use mathlib.Core.Bool.{Bool, true, false}
 use mathlib.Core.List.{List, [], ◌∷◌, ◌++◌}
 use mathlib.Core.Logic.{◌↔◌}
-use native.Mathlib.Numerals.{add_one}
+use native.Mathlib.Numerals.{add-one}
 use native.Mathlib.Omega.{arith}
 use lib.Bits.{bit_xor, xor_shifted}
 use lib.Count.{count_leading_zeros}
-use lib.ListN.{length, get_or, set, take, drop, take_append_drop, length_take}
-use lib.Seq.{take_suc, length_take_le}
+use lib.ListN.{length, get_or, set, take, drop, take-append-drop, length-take}
+use lib.Seq.{take-suc, length-take-le}
 use Rattle.kinds.specs.Answers.{Says}
 use Rattle.kinds.proofs.TruthLaws.{says_no, says_yes}
 use Rattle.span.specs.Scan.{mask}
@@ -34,16 +34,16 @@ module _ (vs : List ℕ) (j : ℕ) (inside : j < length vs) where
   v = get_or vs j 0
 
   joined : so_far ++ (v ∷ []) ≡ take (suc j) vs
-  joined = sym (take_suc vs j 0 inside)
+  joined = sym (take-suc vs j 0 inside)
 
   here : length so_far ≡ j
-  here = length_take_le j vs (omega arith)
+  here = length-take-le j vs (omega arith)
 
   whole : take (suc j) vs ++ drop (suc j) vs ≡ vs
-  whole = take_append_drop (suc j) vs
+  whole = take-append-drop (suc j) vs
 
   reach : j < length (take (suc j) vs)
-  reach = omega (arith, length_take (suc j) vs)
+  reach = omega (arith, length-take (suc j) vs)
 
   prefix : IsKept (take (suc j) vs) j ↔ IsKept vs j
   prefix = let p = Is_kept_prefix (take (suc j) vs) (drop (suc j) vs) j reach in (λ k. rw whole at (p.1 k), λ k. p.0 (rw whole k))
@@ -51,7 +51,7 @@ module _ (vs : List ℕ) (j : ℕ) (inside : j < length vs) where
   stepped : {es : List ℕ} {b : Bool} {m : ℕ} → Echelon es (so_far ++ (v ∷ [])) → Says b (IsKept (so_far ++ (v ∷ [])) (length so_far))
       → m ≡ mask (so_far ++ (v ∷ [])) (length so_far) → Stepped vs j es b m
   stepped echelon keeps masked = record {
-    echelon = rw (add_one, take_suc vs j 0) echelon;
+    echelon = rw (add-one, take-suc vs j 0) echelon;
     keeps = (λ e. prefix.0 (rw (joined, here) at (keeps.0 e)), λ k. keeps.1 (rw (joined, here) (prefix.1 k)));
     masked = masked ∙ ap₂ mask joined here ∙ sym (mask_prefix (take (suc j) vs) (drop (suc j) vs) j reach) ∙ ap (λ (l : List ℕ). mask l j) whole;
   }

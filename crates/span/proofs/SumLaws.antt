@@ -23,13 +23,13 @@ use mathlib.Core.List.{List, [], ◌∷◌, ◌++◌, map}
 use mathlib.Core.Logic.{◌⊎◌, inl, inr, ⊎_elim}
 use native.Mathlib.Decide.{dec_lt}
 use native.Mathlib.Omega.{arith}
-use native.Mathlib.Nat.{mod_lt, pow_suc, div_eq_of_lt_le, lt_of_lt_of_le}
-use native.Mathlib.Numerals.{add_one}
-use lib.Arith.{lt_one}
+use native.Mathlib.Nat.{mod-lt, pow-suc, div-eq_of_lt-le, lt_of_lt_of_le}
+use native.Mathlib.Numerals.{add-one}
+use lib.Arith.{lt-one}
 use lib.Bits.{bit_xor, xor_self, xor_lt}
-use lib.ListN.{length, get_or, length_append, length_map, get_or_append}
+use lib.ListN.{length, get_or, length-append, length-map, get_or-append}
 use lib.Pow.{pow_pos, pow_mono}
-use lib.Seq.{get_or_append_add}
+use lib.Seq.{get_or-append-add}
 use Rattle.bits.specs.Image.{image, AllBelow, Linear, chosen}
 use Rattle.bits.proofs.XorLaws.{xor_cancel_right, xor_zero_eq}
 use Rattle.bits.proofs.ImageLaws.{image_zero, image_xor, image_unit, image_mod, image_append, image_prefix, image_lt, image_cons, image_nil, image_snoc, linear_zero, linear_map}
@@ -38,10 +38,10 @@ use Rattle.span.specs.Sums.{SumOf, Independent}
 use Rattle.span.proofs.Counting.{injective_width, onto_width, injective_bijection}
 
 pub length_snoc : (cs : List ℕ) (v : ℕ) → length (cs ++ (v ∷ [])) ≡ suc (length cs)
-length_snoc cs v = length_append cs (v ∷ []) ∙ add_one (length cs)
+length_snoc cs v = length-append cs (v ∷ []) ∙ add-one (length cs)
 
 pub sum_image : (cs : List ℕ) (m : ℕ) → SumOf cs (image cs m)
-sum_image cs m = record { selected = m % 2 ^ length cs; below = mod_lt m (pow_pos (length cs)); sum = image_mod cs m }
+sum_image cs m = record { selected = m % 2 ^ length cs; below = mod-lt m (pow_pos (length cs)); sum = image_mod cs m }
 
 pub sum_zero : (cs : List ℕ) → SumOf cs 0
 sum_zero cs = rw (image_zero cs) at (sum_image cs 0)
@@ -65,10 +65,10 @@ pub span_trans : {cs ds : List ℕ} {v : ℕ} → ((j : ℕ) → j < length cs �
 span_trans {cs} {ds} h s = rw s.sum at (sum_trans cs ds h s.selected)
 
 pub sum_left : {cs : List ℕ} (ds : List ℕ) {v : ℕ} → SumOf cs v → SumOf (cs ++ ds) v
-sum_left {cs} ds = span_trans {cs = cs} (λ j h. rw (get_or_append cs ds 0 j h) at (sum_member (cs ++ ds) j))
+sum_left {cs} ds = span_trans {cs = cs} (λ j h. rw (get_or-append cs ds 0 j h) at (sum_member (cs ++ ds) j))
 
 pub sum_right : (cs : List ℕ) {ds : List ℕ} {v : ℕ} → SumOf ds v → SumOf (cs ++ ds) v
-sum_right cs {ds} = span_trans {cs = ds} (λ j h. rw (get_or_append_add cs ds j 0) at (sum_member (cs ++ ds) (length cs + j)))
+sum_right cs {ds} = span_trans {cs = ds} (λ j h. rw (get_or-append-add cs ds j 0) at (sum_member (cs ++ ds) (length cs + j)))
 
 pub sum_map : (f : ℕ → ℕ) → Linear f → {cs : List ℕ} {v : ℕ} → SumOf cs v → SumOf (map f cs) (f v)
 sum_map f linear {cs} s = rw (sym (linear_map f linear cs s.selected) ∙ ap f s.sum) at (sum_image (map f cs) s.selected)
@@ -85,8 +85,8 @@ snoc_cases : (cs : List ℕ) (v m : ℕ) → m < 2 ^ length (cs ++ (v ∷ []))
 snoc_cases cs v m h = elim (dec_lt m (2 ^ length cs)) [
   | yes low ↦ inl (low, image_prefix cs (v ∷ []) m low)
   | no high ↦
-      let short : m < 2 ^ length cs * 2 = rw (length_snoc cs v, pow_suc 2 (length cs)) at h in
-      let one : m / 2 ^ length cs ≡ 1 = div_eq_of_lt_le (2 ^ length cs) (omega arith) (omega arith) in
+      let short : m < 2 ^ length cs * 2 = rw (length_snoc cs v, pow-suc 2 (length cs)) at h in
+      let one : m / 2 ^ length cs ≡ 1 = div-eq_of_lt-le (2 ^ length cs) (omega arith) (omega arith) in
       inr (image_snoc cs v m ∙ ap (λ (q : ℕ). bit_xor (image cs m) (chosen (q % 2) v)) one)
 ]
 
@@ -108,11 +108,11 @@ pub injective_independent : (cs : List ℕ) → Injective (image cs) (2 ^ length
 injective_independent cs inj m h e = inj m 0 h (pow_pos (length cs)) (e ∙ sym (image_zero cs))
 
 pub independent_nil : Independent []
-independent_nil m h e = lt_one h
+independent_nil m h e = lt-one h
 
 pub independent_left : (cs ds : List ℕ) → Independent (cs ++ ds) → Independent cs
 independent_left cs ds ind m h e =
-    ind m (lt_of_lt_of_le h (pow_mono (omega (arith, length_append cs ds)))) (image_prefix cs ds m h ∙ e)
+    ind m (lt_of_lt_of_le h (pow_mono (omega (arith, length-append cs ds)))) (image_prefix cs ds m h ∙ e)
 
 pub independent_snoc : (cs : List ℕ) (v : ℕ) → Independent cs → ¬ SumOf cs v → Independent (cs ++ (v ∷ []))
 independent_snoc cs v ind out m h e = ⊎_elim
@@ -132,7 +132,7 @@ independent_width k cs b ind = injective_width (λ m h. image_lt k cs b m) (inde
 
 pub map_independent : (m : ℕ) (g : ℕ → ℕ) → Linear g → Injective g (2 ^ m) → (vs : List ℕ) → AllBelow (2 ^ m) vs → Independent vs → Independent (map g vs)
 map_independent m g linear injective vs below ind s h e =
-    ind s (rw length_map at h)
+    ind s (rw length-map at h)
     (injective (image vs s) 0 (image_lt m vs below s) (pow_pos m) (linear_map g linear vs s ∙ e ∙ sym (linear_zero g linear)))
 
 pub spanning_width : (k : ℕ) (cs : List ℕ) → ((v : ℕ) → v < 2 ^ k → SumOf cs v) → k ≤ length cs

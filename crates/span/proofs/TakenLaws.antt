@@ -6,11 +6,11 @@ use Prim.Native.Nat.{ℕ, zero, suc, ◌+◌, ◌^◌, ◌≤◌, ◌<◌}
 use mathlib.Core.Path.{◌≡◌, refl, ap, ◌∙◌, sym}
 use mathlib.Core.List.{List, [], ◌∷◌, ◌++◌, map}
 use mathlib.Core.Logic.{⊎_elim, ◌↔◌}
-use native.Mathlib.Nat.{add_zero, add_suc}
+use native.Mathlib.Nat.{add-zero, add-suc}
 use native.Mathlib.Omega.{arith}
 use lib.Bits.{bit_xor, xor_self, xor_lt}
-use lib.ListN.{length, get_or, take, length_append, length_take, length_map}
-use lib.Seq.{take_append_add, get_or_append_add, get_or_take}
+use lib.ListN.{length, get_or, take, length-append, length-take, length-map}
+use lib.Seq.{take-append-add, get_or-append-add, get_or-take}
 use Rattle.bits.specs.Image.{image, AllBelow}
 use Rattle.bits.specs.Parity.{dot}
 use Rattle.bits.proofs.XorLaws.{xor_cancel_right}
@@ -74,28 +74,28 @@ module _ (k : ℕ) (R S Z : List ℕ) (R_below : AllBelow (2 ^ k) R) (S_below : 
   )
     where
       first : SumBefore (R ++ S) (length R + j) ↔ SumOf (R ++ take j S) (get_or S j 0)
-      first = before_earlier (R ++ S) (length R + j) (omega (arith, length_append R S)) (take_append_add R S j) (get_or_append_add R S j 0)
+      first = before_earlier (R ++ S) (length R + j) (omega (arith, length-append R S)) (take-append-add R S j) (get_or-append-add R S j 0)
 
       second : SumBefore (taken_on Z S) j ↔ SumOf (taken_on Z (take j S)) (dots Z (get_or S j 0))
-      second = before_earlier (taken_on Z S) j (omega (arith, length_map S (dots Z))) (take_map (dots Z) j S) (map_at (dots Z) S j h)
+      second = before_earlier (taken_on Z S) j (omega (arith, length-map S (dots Z))) (take_map (dots Z) j S) (map_at (dots Z) S j h)
 
       below : AllBelow (2 ^ k) (take j S)
-      below l m = let n : (l < j) × (l < length S) = omega (arith, length_take j S) in rw (get_or_take j S l 0 n.0) (S_below l n.1)
+      below l m = let n : (l < j) × (l < length S) = omega (arith, length-take j S) in rw (get_or-take j S l 0 n.0) (S_below l n.1)
 
   pub taken_kept : (j : ℕ) → j < length S → IsKept (R ++ S) (length R + j) ↔ IsKept (taken_on Z S) j
   taken_kept j h = (λ kept s. kept ((taken_before j h).1 s), λ kept s. kept ((taken_before j h).0 s))
 
   count : (j : ℕ) → j ≤ length S → length (kept_at (R ++ S) (length R + j)) ≡ rank R + length (kept_at (taken_on Z S) j)
   unfolding kept_at
-  count zero h = rw (add_zero (length R), kept_at_prefix R S (length R) (omega arith)) (omega (arith, rank_positions R))
-  count (suc j) h = rw (add_suc (length R) j) (⊎_elim
+  count zero h = rw (add-zero (length R), kept_at_prefix R S (length R) (omega arith)) (omega (arith, rank_positions R))
+  count (suc j) h = rw (add-suc (length R) j) (⊎_elim
       (λ new.
       rw (kept_at_new (R ++ S) (length R + j) ((taken_kept j h).1 new), kept_at_new (taken_on Z S) j new)
-      (simp length_append (omega (arith, count j (omega arith)))))
+      (simp length-append (omega (arith, count j (omega arith)))))
       (λ old. rw (kept_at_old (R ++ S) (length R + j) ((taken_before j h).1 old), kept_at_old (taken_on Z S) j old) (count j (omega arith)))
       (kept_or_sum (taken_on Z S) j))
 
   pub taken_rank : rank (R ++ S) ≡ rank R + rank (taken_on Z S)
   taken_rank =
       rank_positions (R ++ S)
-      ∙ rw (length_append R S, rank_positions (taken_on Z S), length_map S (dots Z)) (count (length S) (omega arith))
+      ∙ rw (length-append R S, rank_positions (taken_on Z S), length-map S (dots Z)) (count (length S) (omega arith))

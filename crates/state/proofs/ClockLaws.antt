@@ -11,7 +11,7 @@ use mathlib.Core.Bool.{Bool, true, false}
 use mathlib.Core.Logic.{◌≢◌}
 use native.Mathlib.Decide.{ℕ_discrete, dec_lt}
 use native.Mathlib.Omega.{arith}
-use borrow.Author.Tests.{eqb_true, lt_ltb, le_ltb, eq_eqb, ne_eqb}
+use borrow.Author.Tests.{eqb-true, lt-ltb, le-ltb, eq-eqb, ne_eqb}
 use Rattle.kinds.specs.Answers.{Says}
 use Rattle.kinds.proofs.TruthLaws.{false≢true, says_no}
 use Rattle.state.specs.Clocks.{PossibleClock, read_on, counted, full, started_anew, next_clock, Completes}
@@ -19,10 +19,10 @@ use Rattle.state.specs.declared.Clock.{Clock}
 
 module _ (T : ℕ) (c : Clock) where
   pub read_more : c.r < T → (read_on T c).r ≡ c.r + 1
-  read_more busy = rw (lt_ltb c.r T busy)
+  read_more busy = rw (lt-ltb c.r T busy)
 
   pub read_idle : T ≤ c.r → (read_on T c).r ≡ c.r
-  read_idle idle = rw (le_ltb c.r T idle)
+  read_idle idle = rw (le-ltb c.r T idle)
 
   pub clock_blank : c.a < T → next_clock T c false ≡ record { a = c.a; r = (read_on T c).r }
   clock_blank part = rw (ne_eqb c.a T (omega arith))
@@ -31,22 +31,22 @@ module _ (T : ℕ) (c : Clock) where
   clock_part part = rw (ne_eqb (c.a + 1) T part)
 
   pub clock_full : c.a + 1 ≡ T → next_clock T c true ≡ record { a = 0; r = 0 }
-  clock_full full = rw (eq_eqb (c.a + 1) T full)
+  clock_full full = rw (eq-eqb (c.a + 1) T full)
 
 module _ (T : ℕ) where
   after_read : (c : Clock) (came : Bool) → PossibleClock T c → c.a < c.r → PossibleClock T (started_anew T (counted c came))
   after_read c false ok ahead = rw (ne_eqb c.a T (omega arith)) ok
   after_read c true ok ahead = elim (ℕ_discrete (c.a + 1) T) [
-    | yes full ↦ rw (eq_eqb (c.a + 1) T full) (omega arith)
+    | yes full ↦ rw (eq-eqb (c.a + 1) T full) (omega arith)
     | no part ↦ rw (ne_eqb (c.a + 1) T part) (omega arith)
   ]
 
   pub clock_possible : (c : Clock) (came : Bool) → PossibleClock T c → PossibleClock T (next_clock T c came)
   clock_possible c came ok = elim (dec_lt c.r T) [
-    | yes busy ↦ rw (lt_ltb c.r T busy) (after_read (record { a = c.a; r = c.r + 1 }) came (omega arith) (omega arith))
-    | no idle ↦ rw (le_ltb c.r T (omega arith)) (after_read c came ok (omega arith))
+    | yes busy ↦ rw (lt-ltb c.r T busy) (after_read (record { a = c.a; r = c.r + 1 }) came (omega arith) (omega arith))
+    | no idle ↦ rw (le-ltb c.r T (omega arith)) (after_read c came ok (omega arith))
   ]
 
 pub full_last : (T : ℕ) (c : Clock) (came : Bool) → PossibleClock T c → Says (full T (counted (read_on T c) came)) (Completes T c came)
-full_last T c true ok = (λ e. record { possible = ok; words = refl; last = eqb_true (c.a + 1) T e }, λ last. eq_eqb (c.a + 1) T last.last)
+full_last T c true ok = (λ e. record { possible = ok; words = refl; last = eqb-true (c.a + 1) T e }, λ last. eq-eqb (c.a + 1) T last.last)
 full_last T c false ok = rw (ne_eqb c.a T (omega (arith, ok.incoming))) (says_no (λ last. false≢true last.words))

@@ -13,7 +13,7 @@ use mathlib.Core.Bool.{Bool, true, false, cond}
 use mathlib.Core.List.{List, [], ◌∷◌}
 use mathlib.Core.Logic.{◌≢◌}
 use native.Mathlib.Omega.{arith}
-use borrow.Author.Tests.{eq_eqb, ne_eqb}
+use borrow.Author.Tests.{eq-eqb, ne_eqb}
 use lib.Dec.{eqb}
 use Rattle.state.specs.Clocks.{next_clock}
 use Rattle.state.specs.States.{clock_of, Possible, reading, words_came, next}
@@ -44,7 +44,7 @@ module _ (T : ℕ) (st : State) where
   next_part w ws part = rw (ne_eqb (st.a + 1) T part)
 
   pub next_full : (w : ℕ) (ws : List ℕ) → st.a + 1 ≡ T → next T st (w ∷ ws) ≡ record { a = 0; h = 1 - st.h; r = 0 }
-  next_full w ws full = rw (eq_eqb (st.a + 1) T full)
+  next_full w ws full = rw (eq-eqb (st.a + 1) T full)
 
   pub next_possible : (ws : List ℕ) → Possible T st → Possible T (next T st ws)
   next_possible ws ok = record { clock = rw (next_clock_law ws) (clock_possible T (clock_of st) (words_came ws) ok.clock); half = half (eqb (after_the_write st ws).a T) }

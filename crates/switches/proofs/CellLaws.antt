@@ -20,12 +20,12 @@ use Prim.Native.Nat.{ℕ, suc, ◌+◌, ◌-◌, ◌*◌, ◌^◌, ◌<◌, ◌�
 use mathlib.Core.Path.{◌≡◌, sym, ap, ap₂, ◌∙◌}
 use mathlib.Core.List.{List}
 use mathlib.Core.Logic.{◌↔◌}
-use native.Mathlib.Nat.{pow_suc, mod_eq_of_lt, div_eq_of_lt}
+use native.Mathlib.Nat.{pow-suc, mod-eq_of_lt, div-eq_of_lt}
 use native.Mathlib.Omega.{arith}
 use lib.Arith.{digits_lt}
 use lib.Bits.{bit_xor, xor_zero_r, xor_comm, xor_lt, xor_block, xor_shr, xor_mod}
-use lib.ListN.{length, get_or, get_or_eq_default}
-use lib.Pow.{pow_pos, pow_lt, pow_mono, split, high, low}
+use lib.ListN.{length, get_or, get_or-eq_default}
+use lib.Pow.{pow_pos, pow-lt, pow_mono, split, high, low}
 use Rattle.kinds.specs.Edition.{Edition}
 use Rattle.kinds.specs.Frame.{tick_bits, tick_of, port_of, word_at, address_of, bank_of}
 use Rattle.kinds.proofs.FrameLaws.{frame_whole, tick_unit}
@@ -86,9 +86,9 @@ module _ (k : ℕ) (S : Side) where
 
   pub port_column : (j : ℕ) → j < k → cell_of k S (2 ^ j) ≡ get_or S.addresses j 0 * 2 ^ k + get_or S.wiring j 0
   port_column j h =
-      let inside = pow_lt h in
+      let inside = pow-lt h in
       ap₂ (λ (a b : ℕ). a * 2 ^ k + b) (address_of_law (2 ^ j) ∙ image_unit S.addresses j)
-      (ap₂ (bank_at S) (div_eq_of_lt inside) (mod_eq_of_lt inside) ∙ port_bank S (2 ^ j) ∙ image_unit S.wiring j)
+      (ap₂ (bank_at S) (div-eq_of_lt inside) (mod-eq_of_lt inside) ∙ port_bank S (2 ^ j) ∙ image_unit S.wiring j)
 
   pub tick_column : (j : ℕ) → k ≤ j → cell_of k S (2 ^ j) ≡ get_or S.addresses j 0 * 2 ^ k + bank_after S.stages (2 ^ (j - k)) 0
   tick_column j h =
@@ -98,7 +98,7 @@ module _ (k : ℕ) (S : Side) where
       (ap₂ (bank_at S) tick port ∙ ap (bank_after S.stages (2 ^ (j - k))) (image_zero S.wiring))
 
 add_lt : (j k : ℕ) {p : ℕ} → j < k → p < 2 ^ j → 2 ^ j + p < 2 ^ k
-add_lt j k h l = omega (arith, pow_suc 2 j, pow_mono {i = suc j} {j = k} h)
+add_lt j k h l = omega (arith, pow-suc 2 j, pow_mono {i = suc j} {j = k} h)
 
 one_bit_more : (k c p j : ℕ) → 2 ^ j < 2 ^ k → p < 2 ^ j → word_at k c (2 ^ j + p) ≡ bit_xor (word_at k c p) (2 ^ j)
 one_bit_more k c p j h l =
@@ -166,13 +166,13 @@ module _ {n k : ℕ} {S : Side} (used : InRange n k S) where
 
   pub column_beyond : k ≤ n → length S.addresses ≡ n → (j : ℕ) → n ≤ j → cell_of k S (2 ^ j) ≡ 0
   column_beyond within count j h =
-      let address : get_or S.addresses j 0 ≡ 0 = get_or_eq_default S.addresses 0 (omega arith) in
+      let address : get_or S.addresses j 0 ≡ 0 = get_or-eq_default S.addresses 0 (omega arith) in
       let bank : bank_after S.stages (2 ^ (j - k)) 0 ≡ 0 = stages_sum S.stages (2 ^ (j - k)) 0 ∙ selected_beyond (2 ^ k) (tick_bits n k) (j - k) S.stages used.stages (omega arith) in
       tick_column k S j (omega arith) ∙ rw (address, bank) (omega arith)
 
   pub cell_double : (c p j : ℕ) → j < k → p < 2 ^ j → cell_at k S c (2 ^ j + p) ≡ bit_xor (cell_at k S c p) (cell_of k S (2 ^ j))
   cell_double c p j h l =
-      let below = pow_lt h in
+      let below = pow-lt h in
       let sum = add_lt j k h l in
       cell_word k S c (2 ^ j + p) sum
       ∙ ap (cell_of k S) (one_bit_more k c p j below l)

@@ -14,11 +14,11 @@
 use Prim.Native.Nat.{ℕ, zero, suc, ◌+◌, ◌*◌, ◌/◌, ◌%◌, ◌^◌, ◌<◌, ◌≤◌}
 use mathlib.Core.Path.{◌≡◌, refl, sym, ap, ap₂, ◌∙◌}
 use mathlib.Core.List.{List, [], ◌∷◌, ◌++◌, map}
-use native.Mathlib.Nat.{div_eq_of_lt}
-use native.Mathlib.Numerals.{add_one}
+use native.Mathlib.Nat.{div-eq_of_lt}
+use native.Mathlib.Numerals.{add-one}
 use native.Mathlib.Omega.{arith}
 use lib.Bits.{bit_xor, xor_zero_r, xor_lt}
-use lib.ListN.{length, get_or, length_map, get_or_eq_default}
+use lib.ListN.{length, get_or, length-map, get_or-eq_default}
 use lib.Pow.{pow_mono, lt_of_le_ones}
 use Rattle.bits.specs.Image.{chosen, image, columns, AllBelow, Linear}
 use Rattle.bits.specs.Parity.{dot}
@@ -75,7 +75,7 @@ stages_made ss t f = linear_agree t (selected ss) f (selected_linear ss)
 
 pub stages_rank : (k : ℕ) (ss : List Stage) (f : ℕ → ℕ) → rank (columns k (λ p. selected ss (f p))) ≤ length ss
 stages_rank k ss f =
-    rw (← length_map ss (λ s. s.direction))
+    rw (← length-map ss (λ s. s.direction))
     (rank_le_length (columns k (λ p. selected ss (f p))) (directions ss)
     (columns_sum k (λ p. selected ss (f p)) (λ j h. sum_image (directions ss) (dots (controls ss) (f (2 ^ j))))))
 
@@ -94,7 +94,7 @@ pub selected_beyond : (b t m : ℕ) (ss : List Stage) → EachStage (StageInRang
 selected_beyond b t m [] each h = image_nil (dots [] (2 ^ m))
 selected_beyond b t m (s ∷ ss) each h =
     let small : s.control < 2 ^ m = omega (arith, lt_of_le_ones t each.0.control.most, pow_mono {i = t} {j = m} h) in
-    let even : dot s.control (2 ^ m) ≡ 0 = dot_unit m s.control ∙ ap (λ (x : ℕ). x % 2) (div_eq_of_lt small) in
+    let even : dot s.control (2 ^ m) ≡ 0 = dot_unit m s.control ∙ ap (λ (x : ℕ). x % 2) (div-eq_of_lt small) in
     selected_cons s ss (2 ^ m) ∙ rw even (selected_beyond b t m ss each.1 h)
 
 pub after_none : (l : List ℕ) (c b : ℕ) → bank_after (stages_in 0 l) c b ≡ b
@@ -104,12 +104,12 @@ after_none l c b = ap (λ (ss : List Stage). bank_after ss c b) (stages_none l)
 pub after_more : (m : ℕ) (l : List ℕ) (c b : ℕ) → bank_after (stages_in (m + 1) l) c b ≡ switched (stage_at l m) c (bank_after (stages_in m l) c b)
 unfolding bank_after
 after_more m l c b =
-    rw (add_one m) (ap (λ (ss : List Stage). bank_after ss c b) (stages_snoc m l) ∙ after_append (stages_in m l) (stage_at l m ∷ []) c b)
+    rw (add-one m) (ap (λ (ss : List Stage). bank_after ss c b) (stages_snoc m l) ∙ after_append (stages_in m l) (stage_at l m ∷ []) c b)
 
 pub after_lt : (w : ℕ) (l : List ℕ) → ((j : ℕ) → get_or l j 0 < 2 ^ w) → (m c b : ℕ) → b < 2 ^ w → bank_after (stages_in m l) c b < 2 ^ w
 after_lt w l narrow zero c b h = rw (after_none l c b) h
 after_lt w l narrow (suc m) c b h =
-    rw (← add_one m, after_more m l c b)
+    rw (← add-one m, after_more m l c b)
     (xor_lt w (bank_after (stages_in m l) c b) _ (after_lt w l narrow m c b h) (chosen_lt (dot (stage_at l m).control c) (stage_at l m).direction w (narrow (2 * m))))
 
 idle : (m : ℕ) (l : List ℕ) (c b : ℕ) → get_or l (2 * m) 0 ≡ 0 → switched (stage_at l m) c b ≡ b
@@ -123,5 +123,5 @@ idle_stages m zero l end c b = ap (λ (s : ℕ). bank_after (stages_in s l) c b)
 idle_stages m (suc more) l end c b =
     ap (λ (s : ℕ). bank_after (stages_in s l) c b) {x = m + suc more} {y = (m + more) + 1} (omega arith)
     ∙ after_more (m + more) l c b
-    ∙ idle (m + more) l c (bank_after (stages_in (m + more) l) c b) (get_or_eq_default l 0 (omega arith))
+    ∙ idle (m + more) l c (bank_after (stages_in (m + more) l) c b) (get_or-eq_default l 0 (omega arith))
     ∙ idle_stages m more l end c b

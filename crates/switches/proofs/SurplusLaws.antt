@@ -11,8 +11,8 @@ use mathlib.Core.Logic.Iff
 use mathlib.Core.Logic.{◌↔◌, ◌⊎◌}
 use native.Mathlib.Decide.{ℕ_discrete}
 use native.Mathlib.Omega.{arith}
-use lib.ListN.{length, length_map}
-use lib.Pow.{pow_lt}
+use lib.ListN.{length, length-map}
+use lib.Pow.{pow-lt}
 use Rattle.kinds.specs.Edition.{Edition}
 use Rattle.kinds.specs.Frame.{tick_bits}
 use Rattle.bits.specs.Image.{image, columns}
@@ -36,7 +36,7 @@ part_selected t ss = columns_same t (tick_part ss) (selected ss) (λ j h. stages
 pub part_few : (t : ℕ) (ss : List Stage) → rank (columns t (tick_part ss)) ≤ length ss
 part_few t ss =
     rw (part_selected t ss)
-    (omega (arith, through_columns t (directions ss) (controls ss), rank_length (directions ss), length_map ss (λ s. s.direction)))
+    (omega (arith, through_columns t (directions ss) (controls ss), rank_length (directions ss), length-map ss (λ s. s.direction)))
 
 part_of_side : {n k : ℕ} {S : Side} → InRange n k S → (t : ℕ) → columns t (tick_part S.stages) ≡ columns t (tick_to_bank k (cell_of k S))
 part_of_side {k = k} {S} used t =
@@ -52,7 +52,7 @@ module _ (b t : ℕ) (ss : List Stage) (each : EachStage (StageInRange b (2 ^ t)
   full =
       rw (part_selected t ss)
       (through_full t (directions ss) (controls ss) (controls_below b t ss each) (length ss)
-      (length_map ss (λ s. s.direction)) (length_map ss (λ s. s.control)))
+      (length-map ss (λ s. s.direction)) (length-map ss (λ s. s.control)))
 
   pub surplus_tells : Surplus t ss ↔ (¬ (Independent (directions ss) × Independent (controls ss)))
   surplus_tells = (
@@ -69,7 +69,7 @@ kept_no_surplus F more = omega (arith, more, kept_count F, ap rank part)
     part : columns (length F) (tick_part (kept_stages_of F)) ≡ F
     part =
         part_selected (length F) (kept_stages_of F)
-        ∙ columns_same (length F) (selected (kept_stages_of F)) (image F) (λ j h. kept_selected F (2 ^ j) (pow_lt h))
+        ∙ columns_same (length F) (selected (kept_stages_of F)) (image F) (λ j h. kept_selected F (2 ^ j) (pow-lt h))
         ∙ columns_image F
 
 pub side_no_surplus : (n k : ℕ) (f : ℕ → ℕ) → ¬ Surplus (tick_bits n k) (side_for n k f).stages

@@ -6,12 +6,12 @@
 --   side_layable         it can be laid out
 use Prim.Native.Nat.{ℕ, ◌+◌, ◌-◌, ◌*◌, ◌^◌, ◌<◌, ◌≤◌, min}
 use mathlib.Core.Path.{◌≡◌, refl, sym, ap, ap₂, ◌∙◌}
-use mathlib.Core.List.{List, map, map_map}
+use mathlib.Core.List.{List, map, map-map}
 use native.Mathlib.Decide.{dec_lt}
-use native.Mathlib.Nat.{pos_of_ne_zero, zero_div}
+use native.Mathlib.Nat.{pos_of_ne-zero, zero-div}
 use native.Mathlib.Omega.{arith}
-use lib.ListN.{length, get_or, length_map}
-use lib.Pow.{pow_pos, pow_lt, le_ones, split}
+use lib.ListN.{length, get_or, length-map}
+use lib.Pow.{pow_pos, pow-lt, le_ones, split}
 use Rattle.kinds.specs.Edition.{Edition}
 use Rattle.kinds.specs.Frame.{tick_bits, word_at, address_of, bank_of}
 use Rattle.kinds.proofs.FrameLaws.{tick_lt, port_lt, tick_unit}
@@ -47,20 +47,20 @@ module _ (F : List ℕ) where
   stages_are = refl
 
   stage_count_law : length (kept_stages_of F) ≡ length ps
-  stage_count_law = ap length stages_are ∙ length_map ps (kept_stage F)
+  stage_count_law = ap length stages_are ∙ length-map ps (kept_stage F)
 
   pub kept_count : length (kept_stages_of F) ≡ rank F
   kept_count = stage_count_law ∙ sym (rank_positions F)
 
   kept_directions : directions (kept_stages_of F) ≡ kept F
   unfolding kept
-  kept_directions = ap directions stages_are ∙ map_map (λ s. s.direction) (kept_stage F) ps
+  kept_directions = ap directions stages_are ∙ map-map (λ s. s.direction) (kept_stage F) ps
 
   kept_controls : controls (kept_stages_of F) ≡ map (row (masks F)) ps
-  kept_controls = ap controls stages_are ∙ map_map (λ s. s.control) (kept_stage F) ps
+  kept_controls = ap controls stages_are ∙ map-map (λ s. s.control) (kept_stage F) ps
 
   control_count : length (controls (kept_stages_of F)) ≡ length ps
-  control_count = length_map (kept_stages_of F) (λ s. s.control) ∙ stage_count_law
+  control_count = length-map (kept_stages_of F) (λ s. s.control) ∙ stage_count_law
 
   control_at_law : (s : ℕ) → s < length ps → get_or (controls (kept_stages_of F)) s 0 ≡ row (masks F) (get_or ps s 0)
   control_at_law s h = ap (λ (l : List ℕ). get_or l s 0) kept_controls ∙ map_at (row (masks F)) ps s h
@@ -85,17 +85,17 @@ module _ (F : List ℕ) where
     inside = kept_at_below F (length F) s h
 
     direction_least : 1 ≤ get_or F p 0
-    direction_least = pos_of_ne_zero (λ none.
-        let no_sum = kept_independent F (length F) (2 ^ s) (rw length_map (pow_lt h)) in
+    direction_least = pos_of_ne-zero (λ none.
+        let no_sum = kept_independent F (length F) (2 ^ s) (rw length-map (pow-lt h)) in
         omega (arith, pow_pos s, no_sum (image_unit (members F ps) s ∙ members_at F ps s h ∙ none)))
 
     own_mask : mask F p ≡ 2 ^ p
     own_mask = sym (mask_unique F p inside (rw (units_at ps s h) at (sum_member (units ps) s)) (image_unit F p))
 
     control_least : 1 ≤ row (masks F) p
-    control_least = pos_of_ne_zero (λ none.
+    control_least = pos_of_ne-zero (λ none.
         let odd : bit p 0 ≡ 1 = ap (bit p) (sym none) ∙ control_bit p p inside ∙ ap (bit p) own_mask ∙ bit_same p in
-        omega (arith, zero_div (2 ^ p)))
+        omega (arith, zero-div (2 ^ p)))
 
   kept_range : (k : ℕ) → AllBelow (2 ^ k) F → EachStage (StageInRange (2 ^ k) (2 ^ length F)) (kept_stages_of F)
   kept_range k below =
@@ -119,7 +119,7 @@ module _ (n k : ℕ) (f : ℕ → ℕ) (within : k ≤ n) (linear : Linear f) (i
 
   used : InRange n k S
   used = record {
-    addresses = columns_below n (2 ^ tick_bits n k) (λ i. address_of k (f i)) (λ j h. tick_lt within (into (2 ^ j) (pow_lt h)));
+    addresses = columns_below n (2 ^ tick_bits n k) (λ i. address_of k (f i)) (λ j h. tick_lt within (into (2 ^ j) (pow-lt h)));
     wiring = columns_below k (2 ^ k) (port_to_bank k f) (λ j h. port_lt k (f (word_at k 0 (2 ^ j))));
     stages = rw tick_count at (kept_range tick_columns k tick_below);
   }
@@ -132,7 +132,7 @@ module _ (n k : ℕ) (f : ℕ → ℕ) (within : k ≤ n) (linear : Linear f) (i
   tick_bank j above h =
       let bit_of_tick : j - k < tick_bits n k = omega arith in
       stages_sum S.stages (2 ^ (j - k)) 0
-      ∙ kept_selected tick_columns (2 ^ (j - k)) (rw tick_count (pow_lt bit_of_tick))
+      ∙ kept_selected tick_columns (2 ^ (j - k)) (rw tick_count (pow-lt bit_of_tick))
       ∙ image_unit tick_columns (j - k)
       ∙ columns_at (tick_bits n k) (tick_to_bank k f) (j - k) bit_of_tick
       ∙ ap (λ (i : ℕ). bank_of k (f i)) (tick_unit above)

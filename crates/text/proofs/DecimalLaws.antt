@@ -9,17 +9,17 @@ use mathlib.Core.Path.{◌≡◌, sym, ap, ◌∙◌}
 use mathlib.Core.List.{List, [], ◌∷◌, ◌++◌}
 use native.Mathlib.Decide.{dec_lt}
 use native.Mathlib.Omega.{arith}
-use borrow.Author.Tests.{lt_ltb, le_ltb}
-use lib.ListN.{length, length_append}
+use borrow.Author.Tests.{lt-ltb, le-ltb}
+use lib.ListN.{length, length-append}
 use Rattle.text.specs.Decimal.{digit, decimal_in, decimal}
 
 in_small : (m x : ℕ) → x < 10 → decimal_in (suc m) x ≡ digit x ∷ []
 unfolding decimal_in
-in_small m x h = rw (lt_ltb x 10 h, decimal_in)
+in_small m x h = rw (lt-ltb x 10 h, decimal_in)
 
 in_more : (m x : ℕ) → 10 ≤ x → decimal_in (suc m) x ≡ decimal_in m (x / 10) ++ (digit (x % 10) ∷ [])
 unfolding decimal_in
-in_more m x h = rw (le_ltb x 10 h, decimal_in)
+in_more m x h = rw (le-ltb x 10 h, decimal_in)
 
 -- more places than enough change nothing
 in_enough : (m l x : ℕ) → x < m → x < l → decimal_in m x ≡ decimal_in l x
@@ -41,7 +41,7 @@ decimal_more x h =
     in_more x x h ∙ ap (λ (ds : List ℕ). ds ++ (digit (x % 10) ∷ [])) (in_enough x (suc (x / 10)) (x / 10) (omega arith) (omega arith))
 
 pub decimal_longer : (x : ℕ) → 10 ≤ x → length (decimal x) ≡ length (decimal (x / 10)) + 1
-decimal_longer x h = ap length (decimal_more x h) ∙ length_append (decimal (x / 10)) (digit (x % 10) ∷ [])
+decimal_longer x h = ap length (decimal_more x h) ∙ length-append (decimal (x / 10)) (digit (x % 10) ∷ [])
 
 pub decimal_some : (x : ℕ) → 1 ≤ length (decimal x)
 decimal_some x = elim (dec_lt x 10) [

@@ -19,12 +19,12 @@
 --   begins? b              whether b begins with a number, and with which
 use Prim.Native.Nat.{ℕ, zero, suc, ◌+◌, ◌-◌, ◌*◌, ◌/◌, ◌%◌, ◌<◌, ◌≤◌, min}
 use mathlib.Core.Path.{◌≡◌, refl, sym, ap, ap₂, subst, ◌∙◌}
-use mathlib.Core.List.{List, [], ◌∷◌, ◌++◌, append_nil, append_assoc}
+use mathlib.Core.List.{List, [], ◌∷◌, ◌++◌, append-nil, append_assoc}
 use mathlib.Core.Logic.{◌⊎◌, inl, inr}
 use native.Mathlib.Decide.{ℕ_discrete, dec_le, dec_lt}
 use native.Mathlib.Omega.{arith}
-use lib.ListN.{length, get_or, take, drop, length_append, take_append_drop, get_or_append}
-use lib.Seq.{append_snoc, take_at, drop_at, take_take}
+use lib.ListN.{length, get_or, take, drop, length-append, take-append-drop, get_or-append}
+use lib.Seq.{append_snoc, take_at, drop_at, take-take}
 use Rattle.kinds.specs.Decided.{both}
 use Rattle.text.specs.Decimal.{digit, decimal}
 use Rattle.text.specs.Number.{greatest_number, IsDigit, NoDigit, Digits, Starts, Stops}
@@ -124,7 +124,7 @@ lead zero x h some = absurd (omega arith)
 lead (suc m) x h some = elim (dec_lt x 10) [
   | yes low ↦ rw (decimal_small x low) (omega arith)
   | no high ↦
-      rw (decimal_more x (omega arith), get_or_append (decimal (x / 10)) (digit (x % 10) ∷ []) 0 0 (decimal_some (x / 10)))
+      rw (decimal_more x (omega arith), get_or-append (decimal (x / 10)) (digit (x % 10) ∷ []) 0 0 (decimal_some (x / 10)))
       (lead m (x / 10) (omega arith) (omega arith))
 ]
 
@@ -168,24 +168,24 @@ digits_on seen v c h (w, m, small, same) =
 
 digits_start : (seen v : ℕ) → Sofar seen v → Starts (digits seen v)
 digits_start zero v h = (0, decimal 0, omega arith, refl)
-digits_start (suc seen) v h = (v, [], omega arith, append_nil (decimal v))
+digits_start (suc seen) v h = (v, [], omega arith, append-nil (decimal v))
 
 stopped : (seen v : ℕ) (r : List ℕ) → Sofar seen v → ((c : ℕ) (s : List ℕ) → r ≡ c ∷ s → ¬ GoesOn seen v c) → ((w : ℕ) (s : List ℕ) → ¬ Digits (digits seen v ++ r) w s)
     → Stops (digits seen v ++ r) (length (digits seen v))
 stopped seen v [] h on not =
     let p = digits seen v in
     record {
-      within = omega (arith, length_append p []);
+      within = omega (arith, length-append p []);
       before = rw (take_at p [] (length p) refl) (digits_start seen v h);
-      stops = λ less. absurd (omega (arith, length_append p []));
+      stops = λ less. absurd (omega (arith, length-append p []));
       not = not;
     }
 stopped seen v (c ∷ r) h on not =
     let p = digits seen v in
     let one : take (length p + 1) (p ++ (c ∷ r)) ≡ p ++ (c ∷ []) =
-    ap (take (length p + 1)) (sym (append_snoc p c r)) ∙ take_at (p ++ (c ∷ [])) r (length p + 1) (length_append p (c ∷ [])) in
+    ap (take (length p + 1)) (sym (append_snoc p c r)) ∙ take_at (p ++ (c ∷ [])) r (length p + 1) (length-append p (c ∷ [])) in
     record {
-      within = omega (arith, length_append p (c ∷ r));
+      within = omega (arith, length-append p (c ∷ r));
       before = rw (take_at p (c ∷ r) (length p) refl) (digits_start seen v h);
       stops = λ less s. on c r refl (digits_on seen v c h (subst Starts one s));
       not = not;
@@ -222,7 +222,7 @@ digits_unique {b} {r} {s} {v} {w} g h =
     let (m, on) = reach (decimal v) r (decimal w) s (number_digits v) h.ended e in
     let (l, back) = reach (decimal w) s (decimal v) r (number_digits w) g.ended (sym e) in
     let same : length (decimal v) ≡ length (decimal w) =
-    omega (arith, ap length on, ap length back, length_append (decimal v) m, length_append (decimal w) l) in (
+    omega (arith, ap length on, ap length back, length-append (decimal v) m, length-append (decimal w) l) in (
       sym (number_value v) ∙ ap (value 0) (sym (take_at (decimal v) r (length (decimal v)) refl) ∙ ap (take (length (decimal v))) e ∙ take_at (decimal w) s (length (decimal v)) (sym same)) ∙ number_value w,
       sym (drop_at (decimal v) r (length (decimal v)) refl) ∙ ap (drop (length (decimal v))) e ∙ drop_at (decimal w) s (length (decimal v)) (sym same),
     )
@@ -233,7 +233,7 @@ starts_shorter b i j h (v, m, small, same) = (
   drop i (take j b) ++ m,
   small,
   sym (append_assoc (take i b) (drop i (take j b)) m)
-      ∙ ap (λ (l : List ℕ). l ++ m) (ap (λ (l : List ℕ). l ++ drop i (take j b)) (sym (take_take i j b h)) ∙ take_append_drop i (take j b)) ∙ same,
+      ∙ ap (λ (l : List ℕ). l ++ m) (ap (λ (l : List ℕ). l ++ drop i (take j b)) (sym (take-take i j b h)) ∙ take-append-drop i (take j b)) ∙ same,
 )
 
 pub stops_unique : {b : List ℕ} {i j : ℕ} → Stops b i → Stops b j → i ≡ j

@@ -13,13 +13,13 @@ use mathlib.Core.Path.{◌≡◌, refl, sym, ap, ◌∙◌}
 use mathlib.Core.List.{List, [], ◌∷◌, ◌++◌}
 use mathlib.Core.Logic.{◌↔◌}
 use native.Mathlib.Omega.{arith}
-use lib.ListN.{length, length_append}
+use lib.ListN.{length, length-append}
 use Rattle.text.specs.Decimal.{decimal}
 use Rattle.text.specs.Numbers.{ending, numbers_text, IsRow, Begins}
 use Rattle.text.proofs.ReadLaws.{begins_unique, begins?}
 
 pub begins_shorter : {b rest : List ℕ} {v : ℕ} → Begins b v rest → length rest < length b
-begins_shorter {rest = rest} {v} g = omega (arith, ap length g.bytes, length_append (decimal v) (ending rest ∷ rest))
+begins_shorter {rest = rest} {v} g = omega (arith, ap length g.bytes, length-append (decimal v) (ending rest ∷ rest))
 
 pub row_next : {b xs : List ℕ} {x : ℕ} → IsRow b (x ∷ xs) → Begins b x (numbers_text xs) × IsRow (numbers_text xs) xs
 unfolding numbers_text
@@ -35,7 +35,7 @@ row_none = record { bytes = refl; numbers = tt }
 
 row_shorter : (x : ℕ) (xs : List ℕ) → length (numbers_text xs) < length (numbers_text (x ∷ xs))
 unfolding numbers_text
-row_shorter x xs = omega (arith, length_append (decimal x) (ending (numbers_text xs) ∷ numbers_text xs))
+row_shorter x xs = omega (arith, length-append (decimal x) (ending (numbers_text xs) ∷ numbers_text xs))
 
 pub row_nil : (ns : List ℕ) → numbers_text ns ≡ [] ↔ ns ≡ []
 row_nil [] = (λ e. refl, λ e. sym row_none.bytes)

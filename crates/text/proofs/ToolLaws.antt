@@ -7,7 +7,7 @@ use Prim.Native.Nat.{ℕ, ◌+◌, ◌<◌, ◌≤◌}
 use mathlib.Core.Path.{◌≡◌, refl, sym, ap, ap₂, subst, ◌∙◌}
 use mathlib.Core.List.{List}
 use native.Mathlib.Omega.{arith}
-use lib.ListN.{length, get_or, drop, length_drop}
+use lib.ListN.{length, get_or, drop, length-drop}
 use Rattle.kinds.specs.declared.Refusal.{Refusal}
 use Rattle.text.specs.Number.{NumberIs}
 use Rattle.text.specs.Numbers.{Begins, NextIs}
@@ -19,7 +19,7 @@ use Rattle.text.proofs.ReadLaws.{digits_unique, stops_unique, begins_unique}
 
 -- what comes after is as long, so it starts at the same place
 same_place : (b : List ℕ) (e f : ℕ) → e ≤ length b → f ≤ length b → drop e b ≡ drop f b → e ≡ f
-same_place b e f fits also rest = omega (arith, ap length rest, length_drop e b, length_drop f b)
+same_place b e f fits also rest = omega (arith, ap length rest, length-drop e b, length-drop f b)
 
 pub number_unique : (b : List ℕ) (at : ℕ) (r q : Numeral) → NumberIs b at r → NumberIs b at q → r ≡ q
 number_unique b at (Value v e) (Value w f) (_, fits, there) (_, also, too) =

@@ -8,9 +8,9 @@ use Prim.Native.Nat.{ℕ, suc, ◌+◌, ◌-◌, ◌*◌, ◌^◌, ◌<◌, ◌�
 use mathlib.Core.Path.{◌≡◌, sym, ap, ap₂, ◌∙◌}
 use mathlib.Core.List.{List}
 use native.Mathlib.Omega.{arith}
-use lib.ListN.{length, get_or, take, drop, length_take, length_drop}
+use lib.ListN.{length, get_or, take, drop, length-take, length-drop}
 use lib.Pow.{pow_pos, pow_mono, split}
-use lib.Seq.{ext_get_or, get_or_take, get_or_drop}
+use lib.Seq.{ext_get_or, get_or-take, get_or-drop}
 use Rattle.kinds.specs.Edition.{edition1}
 use Rattle.kinds.specs.Frame.{tick_bits, ticks, port_of, in_order}
 use Rattle.kinds.proofs.FrameLaws.{tick_lt, port_lt, word_lt, in_order_length, in_order_at, in_order_is}
@@ -57,12 +57,12 @@ module _ {n k : ℕ} {s : List ℕ} (run : Runnable n k s) where
     part_long =
         let last = word_lt {p = 2 ^ k - 1} within h (omega (arith, pow_pos k)) in
         let count : length f ≡ 2 ^ n = ap length words ∙ in_order_length (2 ^ n) (λ i. i) in
-        omega (arith, length_take (at + ports - at) (drop at f), length_drop at f, pow_pos k)
+        omega (arith, length-take (at + ports - at) (drop at f), length-drop at f, pow_pos k)
 
     part_at : (p : ℕ) → p < 2 ^ k → get_or (take (at + ports - at) (drop at f)) p 0 ≡ c * 2 ^ k + p
     part_at p l =
-        get_or_take (at + ports - at) (drop at f) p 0 (omega arith)
-        ∙ get_or_drop at f p 0
+        get_or-take (at + ports - at) (drop at f) p 0 (omega arith)
+        ∙ get_or-drop at f p 0
         ∙ ap (λ (x : List ℕ). get_or x (at + p) 0) words
         ∙ in_order_at (2 ^ n) (λ i. i) 0 (at + p) (omega (arith, word_lt within h l))
         ∙ ap (λ (a : ℕ). a + p) from

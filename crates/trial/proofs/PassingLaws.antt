@@ -10,7 +10,7 @@ use Prim.Native.Nat.{ℕ, suc, ◌+◌, ◌*◌, ◌^◌, ◌<◌, ◌≤◌}
 use mathlib.Core.Path.{◌≡◌, sym, ◌∙◌}
 use mathlib.Core.List.{List}
 use native.Mathlib.Decide.{dec_lt}
-use native.Mathlib.Nat.{add_zero, add_suc, suc_mul, mul_le_mul_right, lt_of_mul_lt_mul_right}
+use native.Mathlib.Nat.{add-zero, add-suc, suc-mul, mul-le-mul_right, lt_of_mul-lt-mul_right}
 use native.Mathlib.Omega.{arith}
 use lib.ListN.{length}
 use lib.Pow.{pow_pos}
@@ -38,7 +38,7 @@ pub record Passing (n k : ℕ) (s f : List ℕ) (from : ℕ) (st : State) (ws ms
 
 module _ {n k : ℕ} {s f : List ℕ} {from : ℕ} {st : State} {ws ms : List ℕ} where
   pub passing_start : {ports : ℕ} → Runnable n k s → length f ≡ 2 ^ n → ports ≡ 2 ^ k → Here n k s from st ws ms → Passing n k s f from st ws ms ports 0
-  passing_start run frame tick here = record { run = run; frame = frame; tick = tick; calls = 0; early = omega arith; passed = omega arith; here = rw (add_zero from) here }
+  passing_start run frame tick here = record { run = run; frame = frame; tick = tick; calls = 0; early = omega arith; passed = omega arith; here = rw (add-zero from) here }
 
   module _ {ports at : ℕ} (p : Passing n k s f from st ws ms ports at) where
     all : ticks n k * 2 ^ k ≡ length f
@@ -47,17 +47,17 @@ module _ {n k : ℕ} {s f : List ℕ} {from : ℕ} {st : State} {ws ms : List �
     pub passing_done : length f ≤ at → Here n k s (from + ticks n k) st ws ms
     passing_done end =
         let last : p.calls ≡ ticks n k = elim (dec_lt p.calls (ticks n k)) [
-          | yes l ↦ absurd (omega (arith, all, p.passed, mul_le_mul_right (2 ^ k) l, suc_mul p.calls (2 ^ k), pow_pos k))
+          | yes l ↦ absurd (omega (arith, all, p.passed, mul-le-mul_right (2 ^ k) l, suc-mul p.calls (2 ^ k), pow_pos k))
           | no h ↦ omega (arith, p.early)
         ] in
         rw last at p.here
 
     module _ (h : at < length f) where
       pub passing_left : p.calls < ticks n k
-      passing_left = lt_of_mul_lt_mul_right (2 ^ k) (omega (arith, all, p.passed))
+      passing_left = lt_of_mul-lt-mul_right (2 ^ k) (omega (arith, all, p.passed))
 
       pub passing_fits : at + ports ≤ length f
-      passing_fits = omega (arith, all, p.passed, p.tick, mul_le_mul_right (2 ^ k) passing_left, suc_mul p.calls (2 ^ k))
+      passing_fits = omega (arith, all, p.passed, p.tick, mul-le-mul_right (2 ^ k) passing_left, suc-mul p.calls (2 ^ k))
 
       pub passing_more : from ≤ ticks n k → {st' : State} {ts ws' ms' f' out left : List ℕ} {a : RunAnswer} → length f' ≡ length f → length out ≡ 2 ^ k
           → ts ≡ call_at (trial_calls n k) (from + p.calls)
@@ -71,8 +71,8 @@ module _ {n k : ℕ} {s f : List ℕ} {from : ℕ} {st : State} {ws ms : List �
               tick = p.tick;
               calls = suc p.calls;
               early = passing_left;
-              passed = omega (arith, p.passed, p.tick, suc_mul p.calls (2 ^ k));
-              here = rw (add_suc from p.calls) here;
+              passed = omega (arith, p.passed, p.tick, suc-mul p.calls (2 ^ k));
+              here = rw (add-suc from p.calls) here;
             },
             left,
           )

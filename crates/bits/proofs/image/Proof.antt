@@ -3,12 +3,12 @@ use Prim.Native.Nat.{ℕ, suc, ◌+◌, ◌-◌, ◌/◌, ◌%◌, ◌<◌, ◌�
 use mathlib.Core.Path.{◌≡◌, refl, sym, ap, ◌∙◌}
 use mathlib.Core.List.{List}
 use mathlib.Core.Logic.{⊎_elim}
-use native.Mathlib.Numerals.{add_one}
+use native.Mathlib.Numerals.{add-one}
 use native.Mathlib.Omega.{arith}
 use borrow.Author.Rules.{rules}
 use lib.Bits.{bit_xor, xor_zero_r}
-use lib.ListN.{length, get_or, drop, drop_of_length_le}
-use lib.Seq.{drop_cons}
+use lib.ListN.{length, get_or, drop, drop_of_length-le}
+use lib.Seq.{drop-cons}
 use Rattle.bits.specs.Image.{chosen, image}
 use Rattle.bits.proofs.XorLaws.{xor_assoc}
 use Rattle.bits.proofs.ImageLaws.{image_nil, image_cons}
@@ -25,10 +25,10 @@ module _ {columns : List ℕ} {x sum above j : ℕ} (next : ℕ) (i : Summed col
     within = omega arith;
     whole =
         i.whole
-        ∙ ap (λ (l : List ℕ). bit_xor sum (image l above)) (drop_cons columns j 0 h)
+        ∙ ap (λ (l : List ℕ). bit_xor sum (image l above)) (drop-cons columns j 0 h)
         ∙ ap (bit_xor sum) (image_cons (get_or columns j 0) (drop (suc j) columns) above)
         ∙ sym (xor_assoc sum (chosen (above % 2) (get_or columns j 0)) (image (drop (suc j) columns) (above / 2)))
-        ∙ rw (add_one, e) refl;
+        ∙ rw (add-one, e) refl;
   }
 
   more_set : above % 2 ≡ 1 → next ≡ bit_xor sum (get_or columns j 0) → Summed columns x next (above / 2) (j + 1)
@@ -43,7 +43,7 @@ done : {columns : List ℕ} {x sum above j : ℕ} → Summed columns x sum above
 done {columns} {x} {sum} {above} {j} i h =
     sym
     (i.whole
-    ∙ ap (λ (l : List ℕ). bit_xor sum (image l above)) (drop_of_length_le columns h)
+    ∙ ap (λ (l : List ℕ). bit_xor sum (image l above)) (drop_of_length-le columns h)
     ∙ ap (bit_xor sum) (image_nil above)
     ∙ xor_zero_r sum)
 

@@ -2,7 +2,7 @@
 use Prim.Native.Nat.{ℕ, ◌^◌, ◌*◌, ◌%◌, ◌<◌}
 use mathlib.Core.Path.{◌≡◌, sym, ◌∙◌}
 use borrow.Author.Rules.{rules}
-use borrow.Author.Tests.{eqb_true, eq_eqb}
+use borrow.Author.Tests.{eqb-true, eq-eqb}
 use native.Mathlib.Omega.{arith}
 use lib.Pow.{pow_mono, shl_exact}
 use Rattle.kinds.proofs.TruthLaws.{says_no}
@@ -21,7 +21,7 @@ shl_result c = search rules
 returns_2 : tie.Need-returns-2
 returns_2 c =
     let power = shifted c.before.args.k c.if1.false in
-    (λ e. eqb_true _ _ e ∙ power, λ e. eq_eqb _ _ (e ∙ sym power))
+    (λ e. eqb-true _ _ e ∙ power, λ e. eq-eqb _ _ (e ∙ sym power))
 
 pub is_two_to_spec : {M : Type 1} → statement M
 is_two_to_spec = tie.close (tie.spec returns shl_result returns_2)

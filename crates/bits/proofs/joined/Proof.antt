@@ -5,23 +5,23 @@ use borrow.Author.Rules.{rules}
 use mir.Syntax.{w32}
 use mir.Val.{Fits}
 use native.Mathlib.Decide.{dec_lt}
-use native.Mathlib.Nat.{mul_assoc, mul_le_mul_right, mul-le-mul_left, mul_add_mod_self_right, le_trans}
+use native.Mathlib.Nat.{mul_assoc, mul-le-mul_right, mul-le-mul_left, mul-add-mod_self_right, le_trans}
 use native.Mathlib.Omega.{arith}
-use lib.Pow.{pow_add}
+use lib.Pow.{pow-add}
 use Rattle.bits.specs.Word.{TwoTo}
 use Rattle.bits.proofs.joined.Statement.{statement}
 use Rattle.bits.proofs.joined.Tie as tie
 
 product : (w a b : ℕ) → a ≤ w → b ≤ w → a * b ≤ w * w
-product w a b h l = le_trans (mul_le_mul_right b h) (mul-le-mul_left w l)
+product w a b h l = le_trans (mul-le-mul_right b h) (mul-le-mul_left w l)
 
 all_above : (m h l k : ℕ) → m ≤ k → (h * 2 ^ k + l) % 2 ^ m ≡ l % 2 ^ m
 all_above m h l k b =
     let apart : (k - m) + m ≡ k = omega arith in
     ap (λ (x : ℕ). (h * 2 ^ x + l) % 2 ^ m) (sym apart)
-    ∙ ap (λ (x : ℕ). (h * x + l) % 2 ^ m) (pow_add 2 (k - m) m)
+    ∙ ap (λ (x : ℕ). (h * x + l) % 2 ^ m) (pow-add 2 (k - m) m)
     ∙ ap (λ (x : ℕ). (x + l) % 2 ^ m) (sym (mul_assoc h (2 ^ (k - m)) (2 ^ m)))
-    ∙ mul_add_mod_self_right (h * 2 ^ (k - m)) (2 ^ m) l
+    ∙ mul-add-mod_self_right (h * 2 ^ (k - m)) (2 ^ m) l
 
 parts : (h l k r : ℕ) → TwoTo k r → (h * r + l) % 2 ^ 16 ≡ (h * 2 ^ k + l) % 2 ^ 16
 parts h l k r t =

@@ -5,7 +5,7 @@ use mathlib.Core.List.{List}
 use mathlib.Core.Logic.{◌↔◌}
 use borrow.Author.Count.{below_none, below_more}
 use borrow.Author.Rules.{rules}
-use borrow.Author.Tests.{ltb_true, lt_ltb}
+use borrow.Author.Tests.{ltb-true, lt-ltb}
 use native.Mathlib.Omega.{arith}
 use lib.Bits.{bit_or, or_lt, or_add_and, and_le_l, and_le_r}
 use lib.ListN.{length, get_or}
@@ -85,7 +85,7 @@ returns_2 c =
     let bound : c.two_to.result ≡ 2 ^ m = c.two_to.ensures.fits (omega (arith, c.before.if1.false)) in
     let all = done t c.before.before.loop-test.false m in
     let sum = c.before.before.before.loop.all in
-    (λ e. all.0 (omega (arith, ltb_true sum c.two_to.result e, bound)), λ below. lt_ltb sum c.two_to.result (omega (arith, all.1 below, bound)))
+    (λ e. all.0 (omega (arith, ltb-true sum c.two_to.result e, bound)), λ below. lt-ltb sum c.two_to.result (omega (arith, all.1 below, bound)))
 
 pub within_bits_spec : {M : Type 1} → statement M
 within_bits_spec =

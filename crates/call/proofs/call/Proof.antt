@@ -7,7 +7,7 @@ use mathlib.Core.Option.{none}
 use borrow.Author.Rules.{rules}
 use native.Mathlib.Nat.{mul-le-mul}
 use native.Mathlib.Omega.{arith}
-use lib.ListN.{length, take, drop, replicate, length_append}
+use lib.ListN.{length, take, drop, replicate, length-append}
 use lib.Pow.{pow_mono}
 use Rattle.kinds.specs.Answers.{if_holds}
 use Rattle.kinds.specs.Edition.{edition1}
@@ -228,7 +228,7 @@ part_serve_start : tie.Need-slice-bounds-serve-start
 part_serve_start c = search rules
 
 part_serve_end : tie.Need-slice-bounds-serve-end
-part_serve_end c = let back = c.before in omega (arith, written_length back, length_append (written back) (drop (arriving (at back) - 0) zeros))
+part_serve_end c = let back = c.before in omega (arith, written_length back, length-append (written back) (drop (arriving (at back) - 0) zeros))
 
 sub_serve_2 : tie.Need-overflow-sub-serve-2
 sub_serve_2 c = search rules
@@ -237,7 +237,7 @@ part_serve_start_2 : tie.Need-slice-bounds-serve-start-2
 part_serve_start_2 c = search rules
 
 part_serve_end_2 : tie.Need-slice-bounds-serve-end-2
-part_serve_end_2 c = let back = c.before.before.before in omega (arith, read_length back, length_append (read back) (drop (leaving (at back) - 0) zeros))
+part_serve_end_2 c = let back = c.before.before.before in omega (arith, read_length back, length-append (read back) (drop (leaving (at back) - 0) zeros))
 
 serve_requires : tie.Need-serve-requires
 serve_requires c κs = search rules

@@ -6,8 +6,8 @@ use native.Mathlib.Omega.{arith}
 use borrow.Author.Count.{below_none, below_more}
 use borrow.Author.Rules.{rules}
 use mir.Facts.{Fits-widen}
-use lib.ListN.{length, get_or, take, drop, set, replicate, length_append, length_set}
-use lib.Seq.{get_or_set_same, get_or_set_other}
+use lib.ListN.{length, get_or, take, drop, set, replicate, length-append, length-set}
+use lib.Seq.{get_or-set_same, get_or-set_other}
 use Rattle.kinds.specs.declared.Answer.{Answer}
 use Rattle.kinds.proofs.FirstLaws.{first_none}
 use Rattle.kinds.proofs.FrameLaws.{in_order_at, in_order_is}
@@ -33,10 +33,10 @@ module _ {base : ℕ} {places₀ listed places : List ℕ} {p : ℕ} (i : Placin
       let new = base + get_or listed p 0 in
       record {
         all = i.all;
-        same = length_set places p new ∙ i.same;
+        same = length-set places p new ∙ i.same;
         each =
-            below_more _ p (λ q l. get_or_set_other places p q new 0 (λ e. omega arith) ∙ i.each q l)
-            (get_or_set_same places p new 0 (omega (arith, i.same)));
+            below_more _ p (λ q l. get_or-set_other places p q new 0 (λ e. omega arith) ∙ i.each q l)
+            (get_or-set_same places p new 0 (omega (arith, i.same)));
       }
 
   done : {o : OpenSide} {lent cells : List ℕ} (c : ℕ) (r : Answer) → length lent ≡ length places₀ → ListsCells o c lent cells r → listed ≡ cells → length places₀ ≤ p
@@ -95,7 +95,7 @@ part_listed_start : tie.Need-slice-bounds-listed-start invariant_loop decreases_
 part_listed_start c = search rules
 
 part_listed_end : tie.Need-slice-bounds-listed-end invariant_loop decreases_loop
-part_listed_end c = omega (arith, as_many c.before, length_append (cells c.before) (drop (ports c.before - 0) zeros))
+part_listed_end c = omega (arith, as_many c.before, length-append (cells c.before) (drop (ports c.before - 0) zeros))
 
 loop_holds : tie.Need-loop-init invariant_loop decreases_loop
 loop_holds c = start (ap length (listed_is c.before.before) ∙ as_many c.before.before)

@@ -1,11 +1,11 @@
 -- `card::read_columns` meets its contract. The invariant: the bytes from `at` on are a row of numbers exactly if those from `place` on are, and then the numbers that were taken come first.
 use Prim.Native.Nat.{ℕ, ◌+◌, ◌*◌, ◌-◌, ◌≤◌, ◌<◌}
 use mathlib.Core.Path.{◌≡◌, refl, sym, ap₂, ◌∙◌}
-use mathlib.Core.List.{List, [], ◌∷◌, ◌++◌, append_nil}
+use mathlib.Core.List.{List, [], ◌∷◌, ◌++◌, append-nil}
 use borrow.Author.Rules.{rules}
 use native.Mathlib.Omega.{arith}
-use lib.ListN.{length, set, drop, length_append, drop_of_length_le}
-use lib.Seq.{drop_cons, append_snoc}
+use lib.ListN.{length, set, drop, length-append, drop_of_length-le}
+use lib.Seq.{drop-cons, append_snoc}
 use Rattle.kinds.proofs.TruthLaws.{false≢true}
 use Rattle.text.specs.Numbers.{IsRow, Begins}
 use Rattle.text.proofs.RowLaws.{row_step, row_none, row_rest, row_begins}
@@ -50,7 +50,7 @@ module _ {b numbers : List ℕ} {at count place : ℕ} (t : Taking b at numbers 
     held =
         ap₂ (λ (ns : List ℕ) (i : ℕ). set ns i v) t.held t.many
         ∙ padded_snoc most_columns t.taken v (omega (arith, room_left inside g));
-    many = omega (arith, length_append t.taken (v ∷ []));
+    many = omega (arith, length-append t.taken (v ∷ []));
     short = t.short;
     within = inside;
     passed = omega (arith, two_places b place next inside g);
@@ -61,12 +61,12 @@ module _ {b numbers : List ℕ} {at count place : ℕ} (t : Taking b at numbers 
   stop : place < length b → ((v : ℕ) (rest : List ℕ) → ¬ Begins (drop place b) v rest) → (C : List ℕ) → ¬ IsRow (drop at b) C
   stop h not C r =
       let (ns, s) = t.back C r in
-      let here = drop_cons b place 0 h in
+      let here = drop-cons b place 0 h in
       let (v, rest, g) = row_begins (rw here at s) in
       not v rest (rw here g)
 
   done : length b ≤ place → (C : List ℕ) × IsRow (drop at b) C × (numbers ≡ padded_to most_columns C) × (count ≡ length C)
-  done h = (t.taken, rw (append_nil t.taken) at (t.on [] (rw (drop_of_length_le b h) row_none)), t.held, t.many)
+  done h = (t.taken, rw (append-nil t.taken) at (t.on [] (rw (drop_of_length-le b h) row_none)), t.held, t.many)
 
 abbrev invariant_loop : tie.invariant_loop
 invariant_loop card at numbers₀ count₀ place₀ numbers count place = Taking card at numbers count place

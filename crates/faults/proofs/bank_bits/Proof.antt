@@ -2,7 +2,7 @@
 use mathlib.Core.Path.{sym, ap, ◌∙◌}
 use Prim.Native.Nat.{ℕ, ◌-◌}
 use borrow.Author.Rules.{rules}
-use native.Mathlib.Nat.{mod_eq_of_lt}
+use native.Mathlib.Nat.{mod-eq_of_lt}
 use native.Mathlib.Omega.{arith}
 use lib.Bits.{bit_and, and_mask}
 use lib.Pow.{pow_pos, pow_mono}
@@ -12,7 +12,7 @@ use Rattle.faults.proofs.bank_bits.Tie as tie
 returns : tie.Need-returns
 returns c x h =
     let k = c.before.args.k in
-    and_mask x 32 ∙ mod_eq_of_lt h ∙ sym (mod_eq_of_lt (omega (arith, h, pow_mono {i = 32} {j = k} (omega arith))))
+    and_mask x 32 ∙ mod-eq_of_lt h ∙ sym (mod-eq_of_lt (omega (arith, h, pow_mono {i = 32} {j = k} (omega arith))))
 
 two_to_requires : tie.Need-two-to-requires
 two_to_requires c κs = search rules

@@ -4,13 +4,13 @@ use mathlib.Core.Path.{◌≡◌, sym, ap, ◌∙◌}
 use mathlib.Core.List.{List}
 use mathlib.Core.Logic.{◌≢◌}
 use native.Mathlib.Decide.{ℕ_discrete}
-use native.Mathlib.Nat.{mod_lt}
+use native.Mathlib.Nat.{mod-lt}
 use native.Mathlib.Omega.{arith}
 use borrow.Author.Count.{below_none, below_more}
 use borrow.Author.Rules.{rules}
 use lib.Bits.{bit_and, bit_xor}
 use lib.ListN.{length, get_or}
-use lib.Pow.{pow_pos, pow_lt, shr_le}
+use lib.Pow.{pow_pos, pow-lt, shr_le}
 use Rattle.kinds.specs.Frame.{bank_of}
 use Rattle.kinds.proofs.TruthLaws.{says_no, says_yes}
 use Rattle.bits.specs.Parity.{bit}
@@ -40,7 +40,7 @@ module _ {k : ℕ} {cs : List ℕ} {seen p b : ℕ} (i : Passed k cs seen p) (ba
     next = bit_xor seen (1 * 2 ^ b % 2 ^ 64)
 
     bit_next : (l : ℕ) → bit l next ≡ (bit l seen + bit l (2 ^ b)) % 2
-    bit_next l = let unit : 1 * 2 ^ b % 2 ^ 64 ≡ 2 ^ b = omega (arith, pow_lt {i = b} {j = 64} (omega arith)) in rw unit (bit_xor_law l seen (2 ^ b))
+    bit_next l = let unit : 1 * 2 ^ b % 2 ^ 64 ≡ 2 ^ b = omega (arith, pow-lt {i = b} {j = 64} (omega arith)) in rw unit (bit_xor_law l seen (2 ^ b))
 
     set : bit b next ≡ 1
     set = omega (arith, bit_next b, bit_same b)
@@ -81,7 +81,7 @@ module _ (c : tie.After-bank-bits invariant_loop decreases_loop) where
   cells = c.before.before.args.cells.now
 
   small : (x : ℕ) → bank_of k x < most_banks
-  small x = omega (arith, mod_lt x (pow_pos k), c.before.before.requires)
+  small x = omega (arith, mod-lt x (pow_pos k), c.before.before.requires)
 
   masked : (p : ℕ) → bit_and (get_or cells p 0) c.bank-bits.result ≡ bank_at k cells p
   masked p = c.bank-bits.ensures (get_or cells p 0) (omega (arith, c.before.shared-slice-known.given p))

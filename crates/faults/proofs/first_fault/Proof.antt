@@ -5,7 +5,7 @@ use mathlib.Core.Bool.{Bool, true, false, cond}
 use mathlib.Core.List.{List, [], ◌∷◌}
 use mathlib.Core.Option.{some}
 use borrow.Author.Rules.{rules}
-use native.Mathlib.Nat.{sub_zero}
+use native.Mathlib.Nat.{sub-zero}
 use native.Mathlib.Omega.{arith}
 use lib.ListN.{length, take}
 use lib.Seq.{take-length}
@@ -34,8 +34,8 @@ clash_given F k cs rest {p} {q} e =
 
 -- the marks after those cells were emptied that were freed
 judged : (after : Bool) (reads l : List ℕ) (m : ℕ) → m ≡ cond after (length reads) 0 → with_marks 0 (take (m - 0) reads) l ≡ judged_on after reads l
-judged true reads l m e = ap (λ (i : ℕ). with_marks 0 (take i reads) l) (sub_zero m ∙ e) ∙ ap (λ (x : List ℕ). with_marks 0 x l) (take-length reads)
-judged false reads l m e = ap (λ (i : ℕ). with_marks 0 (take i reads) l) (sub_zero m ∙ e) ∙ put_nil _ l
+judged true reads l m e = ap (λ (i : ℕ). with_marks 0 (take i reads) l) (sub-zero m ∙ e) ∙ ap (λ (x : List ℕ). with_marks 0 x l) (take-length reads)
+judged false reads l m e = ap (λ (i : ℕ). with_marks 0 (take i reads) l) (sub-zero m ∙ e) ∙ put_nil _ l
 
 module _ (c : tie.Start) where
   abbrev after : Bool

@@ -6,7 +6,7 @@ use mathlib.Core.Logic.{◌≢◌}
 use native.Mathlib.Omega.{arith}
 use borrow.Author.Count.{below_none, below_more}
 use borrow.Author.Rules.{rules}
-use lib.ListN.{length, get_or, get_or_eq_default}
+use lib.ListN.{length, get_or, get_or-eq_default}
 use Rattle.kinds.proofs.TruthLaws.{says_no, says_yes}
 use Rattle.faults.specs.Marks.{Filled, with_marks}
 use Rattle.faults.proofs.MarkLaws.{put_length, put_other, zero_stays, marked_zero}
@@ -17,7 +17,7 @@ record Passed (cell : ℕ) (freed : List ℕ) (q : ℕ) : Type 0 where
   other : (i : ℕ) → i < q → get_or freed i 0 ≢ cell
 
 beyond : (freed marks : List ℕ) (cell : ℕ) → length marks ≤ cell → ¬ Filled (with_marks 0 freed marks) cell
-beyond freed marks cell h filled = filled (get_or_eq_default (with_marks 0 freed marks) 0 (rw (put_length freed _ marks) h))
+beyond freed marks cell h filled = filled (get_or-eq_default (with_marks 0 freed marks) 0 (rw (put_length freed _ marks) h))
 
 empty : (freed marks : List ℕ) (cell : ℕ) → get_or marks cell 0 ≡ 0 → ¬ Filled (with_marks 0 freed marks) cell
 empty freed marks cell e filled = filled (zero_stays freed marks cell e)

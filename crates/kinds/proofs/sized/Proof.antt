@@ -1,6 +1,6 @@
 -- `kinds::sized` meets its contract.
 use borrow.Author.Rules.{rules}
-use borrow.Author.Tests.{leb_true, le_leb, not-true, not-false}
+use borrow.Author.Tests.{leb-true, le-leb, not-true, not-false}
 use native.Mathlib.Omega.{arith}
 use Rattle.kinds.proofs.TruthLaws.{says_no, denied}
 use Rattle.kinds.proofs.sized.Statement.{statement}
@@ -23,9 +23,9 @@ returns_4 c = let k = c.before.before.before.before.args.k in (
   λ e. record {
     frame = c.before.before.before.sized-n.ensures.0 (not-false _ c.before.before.if1.false);
     least = omega arith;
-    most = omega (arith, leb_true k 5 e);
+    most = omega (arith, leb-true k 5 e);
   },
-  λ s. le_leb k 5 (omega (arith, s.most)),
+  λ s. le-leb k 5 (omega (arith, s.most)),
 )
 
 pub sized_spec : {M : Type 1} → statement M

@@ -1,11 +1,11 @@
 -- `lay::lay_out` meets its contract. Three parts and one place, written into all places of a side one after another, are these four in a row.
 use Prim.Native.Nat.{ℕ, suc, ◌+◌, ◌-◌, ◌<◌, ◌≤◌}
 use mathlib.Core.Path.{◌≡◌, refl, sym, ap, ◌∙◌}
-use mathlib.Core.List.{List, [], ◌∷◌, ◌++◌, append_assoc, append_nil}
+use mathlib.Core.List.{List, [], ◌∷◌, ◌++◌, append_assoc, append-nil}
 use native.Mathlib.Omega.{arith}
 use borrow.Author.Rules.{rules}
-use lib.ListN.{length, take, drop, set, length_set, length_append, length_take, length_drop, drop_of_length_le}
-use lib.Seq.{length_take_le, take_all, take_at, take-suc-set}
+use lib.ListN.{length, take, drop, set, length-set, length-append, length-take, length-drop, drop_of_length-le}
+use lib.Seq.{length-take-le, take_all, take_at, take-suc-set}
 use Rattle.kinds.specs.Edition.{edition1, side_places}
 use Rattle.bits.specs.Padded.{padded_to, padded}
 use Rattle.bits.proofs.PaddedLaws.{padded_whole, padded_length}
@@ -31,23 +31,23 @@ record Begun (a w v : ℕ) (l A W side : List ℕ) : Type 0 where
 begun : (a w v : ℕ) (l A W : List ℕ) → a + w < length l → Put 0 a l A → Put a w (put 0 a l A) W
     → Begun a w v l A W (set (put a w (put 0 a l A) W) (a + w) v)
 begun a w v l A W room (p, addressed) (q, wired) =
-    let addresses : length A ≡ a = p ∙ length_take_le a l (omega arith) in
-    let wiring : length W ≡ w = q ∙ simp (length_take, length_drop) (omega (arith, addressed)) in
+    let addresses : length A ≡ a = p ∙ length-take-le a l (omega arith) in
+    let wiring : length W ≡ w = q ∙ simp (length-take, length-drop) (omega (arith, addressed)) in
     let rest = drop w (drop a (put 0 a l A)) in
     record {
       addresses = addresses;
       wiring = wiring;
-      same = length_set (put a w (put 0 a l A) W) (a + w) v ∙ wired ∙ addressed;
+      same = length-set (put a w (put 0 a l A) W) (a + w) v ∙ wired ∙ addressed;
       front =
           take-suc-set (put a w (put 0 a l A) W) (a + w) v (omega (arith, wired, addressed))
-          ∙ rw (take_at A (drop a l) a addresses, ← append_assoc A W rest, take_at (A ++ W) rest (a + w) (omega (arith, length_append A W, addresses, wiring)));
+          ∙ rw (take_at A (drop a l) a addresses, ← append_assoc A W rest, take_at (A ++ W) rest (a + w) (omega (arith, length-append A W, addresses, wiring)));
     }
 
 laid : {a w v n : ℕ} {l A W side G X Y Z : List ℕ} → Begun a w v l A W side → A ≡ X → W ≡ Y → v ≡ n → G ≡ Z
     → put (suc (a + w)) (length side - suc (a + w)) side G ≡ X ++ (Y ++ (n ∷ Z))
 laid {a} {w} {side = side} {G = G} b p q r s =
     let end = suc (a + w) in
-    rw (drop_of_length_le (drop end side) {i = length side - end} (omega (arith, length_drop end side)), append_nil G, b.front, p, q, r, s)
+    rw (drop_of_length-le (drop end side) {i = length side - end} (omega (arith, length-drop end side)), append-nil G, b.front, p, q, r, s)
     (simp append_assoc)
 
 returns : tie.Need-returns
@@ -156,7 +156,7 @@ returns_2 c =
           let stages : numbers lent ≡ padded (flat ss) = lent.before.before.before.before.before.before.before.before.before.numbers.ensures ss shows in
           laid (so_far lent) (addressed lent) (wired lent) (lent.before.before.before.before.before.before.before.before.count.ensures.counted ss shows)
           (c.before.before.pad-into3.ensures
-          ∙ ap (λ (m : ℕ). padded_to m (take m (numbers lent))) {x = length (take (length (now_side lent) - 16) (drop 16 (now_side lent)))} {y = 16} (simp (length_take, length_drop) (omega (arith, whole lent)))
+          ∙ ap (λ (m : ℕ). padded_to m (take m (numbers lent))) {x = length (take (length (now_side lent) - 16) (drop 16 (now_side lent)))} {y = 16} (simp (length-take, length-drop) (omega (arith, whole lent)))
           ∙ ap (λ (l : List ℕ). padded_to 16 (take 16 l)) stages
           ∙ ap (padded_to 16) (take_all 16 (padded (flat ss)) (omega (arith, padded_length 16 (flat ss) few)))
           ∙ padded_whole 16 (padded (flat ss)) (padded_length 16 (flat ss) few));

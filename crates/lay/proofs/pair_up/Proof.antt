@@ -3,11 +3,11 @@ use Prim.Native.Nat.{ℕ, ◌+◌, ◌-◌, ◌*◌, ◌≤◌, ◌<◌, min}
 use mathlib.Core.Path.{◌≡◌, refl, ap, ap₂, sym, ◌∙◌}
 use mathlib.Core.List.{List, [], ◌∷◌, ◌++◌}
 use native.Mathlib.Decide.{dec_le}
-use native.Mathlib.Numerals.{add_one}
+use native.Mathlib.Numerals.{add-one}
 use native.Mathlib.Omega.{arith}
 use borrow.Author.Rules.{rules}
-use lib.ListN.{length, get_or, take, set, replicate, length_take}
-use lib.Seq.{length_take_le, take_all, take_suc}
+use lib.ListN.{length, get_or, take, set, replicate, length-take}
+use lib.Seq.{length-take-le, take_all, take-suc}
 use Rattle.kinds.specs.Edition.{edition1}
 use Rattle.bits.specs.Padded.{array_width, padded}
 use Rattle.sheet.specs.Sheet.{Stage, flat}
@@ -37,11 +37,11 @@ module _ {ds cs : List ℕ} {count : ℕ} {numbers : List ℕ} {s : ℕ} (i : Pa
   more : s < count → Paired ds cs count (set (set numbers (2 * s) (get_or ds s 0)) (2 * s + 1) (get_or cs s 0)) (s + 1)
   more h =
       let stage : Stage = record { direction = get_or ds s 0; control = get_or cs s 0 } in
-      let here : length (take s all) ≡ s = length_take_le s all (omega (arith, size, i.last)) in
+      let here : length (take s all) ≡ s = length-take-le s all (omega (arith, size, i.last)) in
       let next : take s all ++ (stage ∷ []) ≡ take (s + 1) all =
       ap (λ (t : Stage). take s all ++ (t ∷ [])) (sym (pairs_at ds cs s stage (omega (arith, i.last)) (omega (arith, i.last))))
-      ∙ sym (take_suc all s stage (omega (arith, size, i.last)))
-      ∙ ap (λ (m : ℕ). take m all) (sym (add_one s)) in
+      ∙ sym (take-suc all s stage (omega (arith, size, i.last)))
+      ∙ ap (λ (m : ℕ). take m all) (sym (add-one s)) in
       record {
         last = i.last;
         within = omega arith;
@@ -58,7 +58,7 @@ module _ {ds cs : List ℕ} {count : ℕ} {numbers : List ℕ} {s : ℕ} (i : Pa
         | no h ↦ ap (λ (m : ℕ). take m all) {x = s} {y = edition1.most_stages} (omega (arith, size, i.last, i.within))
       ] in
       ap₂ (λ (ns : List ℕ) (m : ℕ). record { numbers = ns; count = m }) (i.so_far ∙ ap (λ (ss : List Stage). padded (flat ss)) ends)
-      (omega (arith, size, i.last, length_take edition1.most_stages all))
+      (omega (arith, size, i.last, length-take edition1.most_stages all))
 
 abbrev invariant_loop : tie.invariant_loop
 invariant_loop directions controls numbers₀ both count s₀ numbers s = Paired directions controls count numbers s

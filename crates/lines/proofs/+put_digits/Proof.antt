@@ -3,9 +3,9 @@ use Prim.Native.Nat.{ℕ, ◌+◌, ◌/◌, ◌%◌, ◌≤◌, ◌<◌}
 use mathlib.Core.Path.{refl, ap}
 use mathlib.Core.List.{List, [], ◌∷◌}
 use mathlib.Core.Logic.{⊎_elim}
-use native.Mathlib.Nat.{mod_eq_of_lt}
+use native.Mathlib.Nat.{mod-eq_of_lt}
 use native.Mathlib.Omega.{arith}
-use lib.ListN.{length, length_set, length_append}
+use lib.ListN.{length, length-set, length-append}
 use borrow.Author.Rules.{rules}
 use borrow.Fn.Kinds.{In}
 use borrow.Fn.PlainCycle.{Measures, is, falls, and}
@@ -33,13 +33,13 @@ last number = digit (number % 10) ∷ []
 
 module _ {number at : ℕ} {x : List ℕ} (fits : RoomFor (decimal number) at x) where
   small : number < 10 → Left (decimal number) at x (last number) at x
-  small h = left_more (left_all fits) (rw (decimal_small number h, mod_eq_of_lt h)) writes_none
+  small h = left_more (left_all fits) (rw (decimal_small number h, mod-eq_of_lt h)) writes_none
 
   more : {y : List ℕ} {r : ℕ} → 10 ≤ number → Writes (decimal (number / 10)) at x y r → Left (decimal number) at x (last number) r y
   more h = left_more (left_all fits) (decimal_more number h)
 
 shorter : (number : ℕ) → 10 ≤ number → length (decimal (number / 10)) ≤ length (decimal number)
-shorter number h = omega (arith, length_append (decimal (number / 10)) (last number), ap length (decimal_more number h))
+shorter number h = omega (arith, length-append (decimal (number / 10)) (last number), ap length (decimal_more number h))
 
 last_left : (t : ℕ) (c : put-digits-lts.Joined1 (put_digits_below t, put-digits.Post) (put_digits_at t) put-digits.Post)
     → Left (decimal c.before.before.args.number) c.before.before.args.at c.before.before.args.text.now
@@ -67,7 +67,7 @@ put_digits_add_result : (t : ℕ) → put-digits-lts.Need-overflow-add-result (p
 put_digits_add_result t c = omega (arith, last_left t c.before)
 
 put_digits_same_length : (t : ℕ) → put-digits-lts.Need-same-length (put_digits_below t, put-digits.Post) (put_digits_at t) put-digits.Post
-put_digits_same_length t c = simp length_set (last_left t c.before).same
+put_digits_same_length t c = simp length-set (last_left t c.before).same
 
 put_digits_returns : (t : ℕ) → put-digits-lts.Need-returns (put_digits_below t, put-digits.Post) (put_digits_at t) put-digits.Post
 put_digits_returns t c = left_done (left_more (last_left t c.before) refl writes_byte) refl

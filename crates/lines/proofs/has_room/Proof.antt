@@ -2,7 +2,7 @@
 use Prim.Native.Nat.{ℕ, ◌+◌, ◌-◌, ◌≤◌}
 use lib.Dec.{leb}
 use native.Mathlib.Omega.{arith}
-use borrow.Author.Tests.{leb_true, le_leb}
+use borrow.Author.Tests.{leb-true, le-leb}
 use Rattle.kinds.specs.Answers.{Says}
 use Rattle.kinds.proofs.TruthLaws.{says_no}
 use Rattle.lines.proofs.has_room.Statement.{statement}
@@ -10,8 +10,8 @@ use Rattle.lines.proofs.has_room.Tie as tie
 
 room_left : (places at bytes : ℕ) → at ≤ places → Says (leb bytes (places - at)) (at + bytes ≤ places)
 room_left places at bytes within = (
-  λ yes. omega (arith, leb_true bytes (places - at) yes),
-  λ fits. le_leb bytes (places - at) (omega arith),
+  λ yes. omega (arith, leb-true bytes (places - at) yes),
+  λ fits. le-leb bytes (places - at) (omega arith),
 )
 
 returns : tie.Need-returns

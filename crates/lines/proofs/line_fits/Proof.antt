@@ -5,8 +5,8 @@ use mathlib.Core.Path.{◌≡◌, ap}
 use mathlib.Core.List.{List}
 use native.Mathlib.Omega.{arith}
 use borrow.Author.Rules.{rules}
-use borrow.Author.Tests.{ltb_true, lt_ltb, not-true, not-false}
-use lib.ListN.{length, get_or, drop, length_append}
+use borrow.Author.Tests.{ltb-true, lt-ltb, not-true, not-false}
+use lib.ListN.{length, get_or, drop, length-append}
 use Rattle.kinds.specs.Answers.{Says}
 use Rattle.kinds.proofs.TruthLaws.{says_no, says_yes, denied}
 use Rattle.text.specs.Decimal.{decimal}
@@ -26,7 +26,7 @@ module _ {places at name : ℕ} {ns : List ℕ} {end i : ℕ} (m : Measures plac
     number = decimal (get_or ns i 0)
 
     here : length (line_end (drop i ns)) ≡ 1 + length number + length (line_end (drop (i + 1) ns))
-    here = omega (arith, ap length (ending_more ns i h), length_append number (line_end (drop (i + 1) ns)))
+    here = omega (arith, ap length (ending_more ns i h), length-append number (line_end (drop (i + 1) ns)))
 
     short : {spaced : ℕ} → spaced ≡ 1 + length number → ¬ (end + spaced ≤ places) → ¬ (at + (name + length (line_end ns)) ≤ places)
     short wide not fits = not (omega (arith, m.left, here, wide))
@@ -37,7 +37,7 @@ module _ {places at name : ℕ} {ns : List ℕ} {end i : ℕ} (m : Measures plac
   last : length ns ≤ i → Says (ltb end places) (at + (name + length (line_end ns)) ≤ places)
   last h =
       let newline = ap length (ending_done ns i h) in
-      (λ yes. omega (arith, m.left, newline, ltb_true end places yes), λ fits. lt_ltb end places (omega (arith, m.left, newline)))
+      (λ yes. omega (arith, m.left, newline, ltb-true end places yes), λ fits. lt-ltb end places (omega (arith, m.left, newline)))
 
 abbrev invariant_loop : tie.invariant_loop
 invariant_loop places at name numbers named end₀ i₀ end i = Measures places at name numbers end i

@@ -2,13 +2,13 @@
 use Prim.Native.Nat.{ℕ, ◌+◌, ◌-◌, ◌≤◌, ◌<◌}
 use mathlib.Core.Path.{◌≡◌, refl}
 use mathlib.Core.List.{List, [], ◌∷◌}
-use native.Mathlib.Nat.{add_zero}
-use native.Mathlib.Numerals.{add_one}
+use native.Mathlib.Nat.{add-zero}
+use native.Mathlib.Numerals.{add-one}
 use native.Mathlib.Omega.{arith}
 use borrow.Author.Rules.{rules}
 use borrow.Author.Tests.{not-true, not-false}
-use lib.ListN.{length, get_or, drop, set, drop_of_length_le}
-use lib.Seq.{drop_cons}
+use lib.ListN.{length, get_or, drop, set, drop_of_length-le}
+use lib.Seq.{drop-cons}
 use Rattle.kinds.proofs.TruthLaws.{denied}
 use Rattle.lines.specs.Written.{RoomFor, Writes}
 use Rattle.lines.proofs.WriteLaws.{puts_no, puts_yes, Left, left_all, left_more, left_done}
@@ -20,17 +20,17 @@ record Writing (bytes : List ℕ) (at : ℕ) (text₀ text : List ℕ) (i : ℕ)
   left : Left bytes at text₀ (drop i bytes) (at + i) text
 
 start : {bytes : List ℕ} {at : ℕ} {text₀ : List ℕ} → RoomFor bytes at text₀ → Writing bytes at text₀ text₀ 0
-start {at} fits = record { within = omega arith; left = rw (add_zero at) (left_all fits) }
+start {at} fits = record { within = omega arith; left = rw (add-zero at) (left_all fits) }
 
 module _ {bytes : List ℕ} {at : ℕ} {text₀ text : List ℕ} {i : ℕ} (w : Writing bytes at text₀ text i) where
   more : {b : ℕ} → i < length bytes → b ≡ get_or bytes i 0 → Writing bytes at text₀ (set text (at + i) b) (i + 1)
   more {b} h e = record {
     within = omega arith;
-    left = left_more w.left {u = b ∷ []} (rw (e, add_one) (drop_cons bytes i 0 h)) (record { next = omega arith; text = refl });
+    left = left_more w.left {u = b ∷ []} (rw (e, add-one) (drop-cons bytes i 0 h)) (record { next = omega arith; text = refl });
   }
 
   done : length bytes ≤ i → Writes bytes at text₀ text (at + i)
-  done h = left_done w.left (drop_of_length_le bytes {i = i} h)
+  done h = left_done w.left (drop_of_length-le bytes {i = i} h)
 
 abbrev invariant_loop : tie.invariant_loop
 invariant_loop text₀ at bytes fits i₀ text i = Writing bytes at text₀ text i

@@ -4,7 +4,7 @@ use mathlib.Core.List.{List}
 use native.Mathlib.Omega.{arith}
 use borrow.Author.Rules.{rules}
 use borrow.Author.Tests.{not-true, not-false}
-use lib.ListN.{length, length_append}
+use lib.ListN.{length, length-append}
 use Rattle.kinds.proofs.TruthLaws.{denied}
 use Rattle.lines.specs.Line.{line_end}
 use Rattle.lines.specs.Written.{Writes}
@@ -19,7 +19,7 @@ returns : tie.Need-returns
 returns c =
     let start = c.before.before.before.before.before in
     puts_no (λ fits.
-    denied c.before.line-fits.ensures (not-true _ c.if1.true) (omega (arith, length_append start.args.name.now (line_end start.args.numbers.now))))
+    denied c.before.line-fits.ensures (not-true _ c.if1.true) (omega (arith, length-append start.args.name.now (line_end start.args.numbers.now))))
 
 module _ (c : tie.Else1) where
   abbrev start : tie.Start
@@ -54,7 +54,7 @@ returns_2 : tie.Need-returns-2
 returns_2 c =
     let at = c.before.before.before.before.before.before in
     let from = at.before.before in
-    puts_yes (omega (arith, room from, length_append (name from) (line_end (numbers from)))) (writes_then (named at) c.before.before.put-numbers.ensures)
+    puts_yes (omega (arith, room from, length-append (name from) (line_end (numbers from)))) (writes_then (named at) c.before.before.put-numbers.ensures)
 
 pub put_line_spec : {M : Type 1} → statement M
 put_line_spec =

@@ -5,7 +5,7 @@ use mathlib.Core.Path.{◌≡◌, refl, ap}
 use mathlib.Core.List.{List, [], ◌∷◌, ◌++◌}
 use native.Mathlib.Omega.{arith}
 use borrow.Author.Rules.{rules}
-use lib.ListN.{length, get_or, drop, set, length_append, length_set}
+use lib.ListN.{length, get_or, drop, set, length-append, length-set}
 use Rattle.text.specs.Decimal.{decimal}
 use Rattle.lines.specs.Line.{line_end}
 use Rattle.lines.specs.Written.{Writes}
@@ -29,7 +29,7 @@ module _ {ns : List ℕ} {at : ℕ} {text₀ text : List ℕ} {place i : ℕ} (w
     here = ending_more ns i h
 
     room : place + 1 + length number ≤ length text
-    room = omega (arith, w.left, ap length here, length_append number others)
+    room = omega (arith, w.left, ap length here, length-append number others)
 
     more : {y : List ℕ} {r : ℕ} → Writes number (place + 1) (set text place (code " ")) y r → Writing ns at text₀ y r (i + 1)
     more wrote = record { left = left_more (left_more w.left here writes_byte) refl wrote }
@@ -66,7 +66,7 @@ add_put_digits : tie.Need-overflow-add-put-digits invariant_loop decreases_loop
 add_put_digits c = omega (arith, room c.before.before.before.loop.invariant c.before.before.loop-test.true)
 
 put_digits_requires : tie.Need-put-digits-requires invariant_loop decreases_loop
-put_digits_requires c κs = simp length_set (omega (arith, room c.before.before.before.loop.invariant c.before.before.loop-test.true))
+put_digits_requires c κs = simp length-set (omega (arith, room c.before.before.before.loop.invariant c.before.before.loop-test.true))
 
 add_i : tie.Need-overflow-add-i invariant_loop decreases_loop
 add_i c = search rules
@@ -86,7 +86,7 @@ add_result : tie.Need-overflow-add-result invariant_loop decreases_loop
 add_result c = omega (arith, last c.before.loop.invariant c.loop-test.false)
 
 same_length : tie.Need-same-length invariant_loop decreases_loop
-same_length c = simp length_set c.before.loop.invariant.left.same
+same_length c = simp length-set c.before.loop.invariant.left.same
 
 returns : tie.Need-returns invariant_loop decreases_loop
 returns c = done c.before.loop.invariant c.loop-test.false

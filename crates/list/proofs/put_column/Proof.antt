@@ -3,7 +3,7 @@ use Prim.Native.Nat.{◌≤◌}
 use mathlib.Core.List.{[], ◌∷◌, ◌++◌}
 use native.Mathlib.Omega.{arith}
 use borrow.Author.Rules.{rules}
-use lib.ListN.{length, length_append}
+use lib.ListN.{length, length-append}
 use Rattle.text.specs.Decimal.{codes, decimal}
 use Rattle.text.proofs.DecimalLaws.{decimal_length}
 use Rattle.lines.specs.Line.{line}
@@ -64,7 +64,7 @@ returns c =
     let from = line (codes " from") (text.args.mask ∷ []) in
     prints_by
     (writes_then (begun (at named)) (writes_then (numbered named) (told.put-line.ensures.written (omega (arith, short, digits named, (numbered named).next, named.put-number.auto.0, (begun (at named)).next, (at named).put-bytes.auto.0, text.pre)))))
-    (omega (arith, length_append (codes "refused 4 column ") (column ++ from), length_append column from, short, digits named, text.pre))
+    (omega (arith, length-append (codes "refused 4 column ") (column ++ from), length-append column from, short, digits named, text.pre))
 
 pub put_column_spec : {M : Type 1} → statement M
 put_column_spec =

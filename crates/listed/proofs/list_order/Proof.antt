@@ -5,7 +5,7 @@ use mathlib.Core.List.{List, [], ◌∷◌, ◌++◌}
 use native.Mathlib.Omega.{arith}
 use borrow.Author.Rules.{rules}
 use borrow.Author.Tests.{not-true, not-false}
-use lib.ListN.{length, take, drop, replicate, length_append}
+use lib.ListN.{length, take, drop, replicate, length-append}
 use lib.Pow.{pow_mono}
 use Rattle.kinds.specs.Edition.{edition1, Sized}
 use Rattle.kinds.specs.Decisions.{sized?}
@@ -153,7 +153,7 @@ module _ (c : tie.Else3) where
 part_put_trial_end : tie.Need-slice-bounds-put-trial-end
 part_put_trial_end c =
     let left = c.before.before.before in
-    omega (arith, frame_length (at left) (done left), length_append (frame (at left) (done left)) (drop (room (at left) - 0) (zeros (at left))))
+    omega (arith, frame_length (at left) (done left), length-append (frame (at left) (done left)) (drop (room (at left) - 0) (zeros (at left))))
 
 put_trial_requires : tie.Need-put-trial-requires
 put_trial_requires c κs =

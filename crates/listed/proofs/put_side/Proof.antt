@@ -4,7 +4,7 @@ use mathlib.Core.Path.{◌≡◌, ap, ◌∙◌}
 use mathlib.Core.List.{List}
 use native.Mathlib.Omega.{arith}
 use borrow.Author.Rules.{rules}
-use lib.ListN.{get_or, take, length_take}
+use lib.ListN.{get_or, take, length-take}
 use Rattle.bits.specs.Padded.{padded_to}
 use Rattle.bits.proofs.PaddedLaws.{padded_part}
 use Rattle.listed.specs.Inside.{counted_stages, Counted}
@@ -18,7 +18,7 @@ module _ {places : List ℕ} (counts : Counted places) where
   listed : {numbers : List ℕ} → numbers ≡ padded_to 17 (take (end - 0) places) → take (end - 0) numbers ≡ counted_stages places
   listed e =
       rw e
-      (padded_part 17 (take (end - 0) places) end (omega (arith, length_take (end - 0) places))
+      (padded_part 17 (take (end - 0) places) end (omega (arith, length-take (end - 0) places))
       ∙ ap (λ (i : ℕ). take i places) {x = end - 0} {y = end} (omega arith))
 
 shared_slice_read_end : tie.Need-shared-slice-read-end

@@ -3,10 +3,10 @@ use Prim.Native.Char.{code}
 use Prim.Native.Nat.{ℕ, suc, ◌+◌, ◌-◌, ◌*◌, ◌/◌, ◌^◌, ◌≤◌, ◌<◌}
 use mathlib.Core.Path.{◌≡◌, refl, ap}
 use mathlib.Core.List.{List, [], ◌∷◌, ◌++◌}
-use native.Mathlib.Nat.{lt_of_mul_lt_mul_right, suc_mul}
+use native.Mathlib.Nat.{lt_of_mul-lt-mul_right, suc-mul}
 use native.Mathlib.Omega.{arith}
 use borrow.Author.Rules.{rules}
-use lib.ListN.{length, take, drop, length_append}
+use lib.ListN.{length, take, drop, length-append}
 use lib.Pow.{pow_pos, pow_mono, shr_le}
 use Rattle.text.specs.Decimal.{decimal}
 use Rattle.promise.specs.Series.{words_of_tick}
@@ -34,7 +34,7 @@ module _ {k : ℕ} {l : List ℕ} {at : ℕ} {text₀ text : List ℕ} {ports pl
 
   module _ (h : end ≤ length l) where
     tick : c < length l / 2 ^ k
-    tick = lt_of_mul_lt_mul_right (2 ^ k) (omega (arith, w.frames.whole, w.ends, some))
+    tick = lt_of_mul-lt-mul_right (2 ^ k) (omega (arith, w.frames.whole, w.ends, some))
 
     few : c < 2 ^ 10
     few = omega (arith, tick, shr_le (length l) k)
@@ -51,7 +51,7 @@ module _ {k : ℕ} {l : List ℕ} {at : ℕ} {text₀ text : List ℕ} {ports pl
     room : place + length (decimal c) + 1 + length (line_end (take (end - start) (drop start l))) ≤ length text
     room =
         rw part
-        (omega (arith, w.left, ap length this, length_append (decimal c) (code ":" ∷ rest), length_append (line_end (words_of_tick k l c)) (ticks_from k l (c + 1))))
+        (omega (arith, w.left, ap length this, length-append (decimal c) (code ":" ∷ rest), length-append (line_end (words_of_tick k l c)) (ticks_from k l (c + 1))))
 
     more : {x y z : List ℕ} {p q r : ℕ} → Puts (decimal c) place text x p → Puts (code ":" ∷ []) p x y q
         → Puts (line_end (take (end - start) (drop start l))) q y z r → Writing k l at text₀ z ports r (c + 1) end (end + ports)
@@ -62,14 +62,14 @@ module _ {k : ℕ} {l : List ℕ} {at : ℕ} {text₀ text : List ℕ} {ports pl
         record {
           frames = w.frames;
           words = w.words;
-          begins = omega (arith, w.begins, w.ends, w.words, suc_mul c (2 ^ k));
+          begins = omega (arith, w.begins, w.ends, w.words, suc-mul c (2 ^ k));
           ends = refl;
           left = left_more (left_more (left_more w.left this label) refl colon) refl (rw part at numbers);
         }
 
   done : length l < end → Writes (tick_lines k l) at text₀ text place
   done h =
-      let over : length l / 2 ^ k < suc c = lt_of_mul_lt_mul_right (2 ^ k) (omega (arith, w.frames.whole, w.begins, w.ends, w.words, suc_mul c (2 ^ k))) in
+      let over : length l / 2 ^ k < suc c = lt_of_mul-lt-mul_right (2 ^ k) (omega (arith, w.frames.whole, w.begins, w.ends, w.words, suc-mul c (2 ^ k))) in
       left_done w.left (ticks_done k l c (omega (arith, over)))
 
 abbrev invariant_loop : tie.invariant_loop

@@ -3,7 +3,7 @@ use Prim.Native.Nat.{ℕ, ◌+◌, ◌≤◌}
 use mathlib.Core.List.{List, [], ◌∷◌, ◌++◌}
 use native.Mathlib.Omega.{arith}
 use borrow.Author.Rules.{rules}
-use lib.ListN.{length, length_append}
+use lib.ListN.{length, length-append}
 use Rattle.text.specs.Decimal.{codes}
 use Rattle.lines.specs.Line.{line}
 use Rattle.lines.specs.Written.{Writes}
@@ -26,7 +26,7 @@ module _ (c : tie.Start) where
   ticks = tick_lines c.args.k c.args.frame.now
 
   room : length orders + length writes + length reads + length ticks ≤ length c.args.text.now
-  room = omega (arith, c.requires.1, length_append orders (writes ++ (reads ++ ticks)), length_append writes (reads ++ ticks), length_append reads ticks)
+  room = omega (arith, c.requires.1, length-append orders (writes ++ (reads ++ ticks)), length-append writes (reads ++ ticks), length-append reads ticks)
 
 sub_write_places : tie.Need-overflow-sub-write-places
 sub_write_places c = search rules

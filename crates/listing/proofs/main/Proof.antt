@@ -4,8 +4,8 @@ use mathlib.Core.Path.{ap, sym}
 use mathlib.Core.List.{List}
 use native.Mathlib.Omega.{arith}
 use borrow.Author.Rules.{rules}
-use lib.ListN.{length, drop, length_append}
-use lib.Seq.{length_take_le}
+use lib.ListN.{length, drop, length-append}
+use lib.Seq.{length-take-le}
 use Rattle.kinds.specs.Edition.{edition1}
 use Rattle.card.proofs.CardLaws.{card?}
 use Rattle.list.specs.Tool.{printed, Prints}
@@ -16,7 +16,7 @@ within : {b t t' : List ℕ} {r : ℕ} → Prints edition1 b t t' r → r ≤ le
 within {b} {t} prints =
     let d = card? b in
     let p = printed edition1 d in
-    omega (arith, (prints d).length_of, ap length (prints d).text, length_append p (drop (length p) t))
+    omega (arith, (prints d).length_of, ap length (prints d).text, length-append p (drop (length p) t))
 
 slice_aggregate_read_full : tie.Need-slice-aggregate-read-full
 slice_aggregate_read_full c = search rules
@@ -37,7 +37,7 @@ array_share_prefix_text : tie.Need-array-share-prefix-text
 array_share_prefix_text c = within c.print.ensures
 
 slice_aggregate_write_all : tie.Need-slice-aggregate-write-all
-slice_aggregate_write_all c = sym (length_take_le c.before.print.result c.before.print.new.1.0 (within c.before.print.ensures))
+slice_aggregate_write_all c = sym (length-take-le c.before.print.result c.before.print.new.1.0 (within c.before.print.ensures))
 
 write_all_requires : tie.Need-write-all-requires
 write_all_requires c κs = search rules

@@ -6,8 +6,8 @@ use native.Mathlib.Omega.{arith}
 use borrow.Author.Count.{below_none, below_more}
 use borrow.Author.Rules.{rules}
 use lib.Bits.{bit_xor}
-use lib.ListN.{length, get_or, set, length_set}
-use lib.Seq.{get_or_set_same, get_or_set_other}
+use lib.ListN.{length, get_or, set, length-set}
+use lib.Seq.{get_or-set_same, get_or-set_other}
 use Rattle.maps.specs.Inside.{Doubled}
 use Rattle.maps.proofs.double.Statement.{statement}
 use Rattle.maps.proofs.double.Tie as tie
@@ -28,12 +28,12 @@ module _ {m v : ℕ} {l r : List ℕ} {p : ℕ} (i : Doubling m v l r p) where
       let new = bit_xor (get_or r p 0) v in
       record {
         fits = i.fits;
-        same = length_set r (m + p) new ∙ i.same;
-        low = λ q k. get_or_set_other r (m + p) q new 0 (λ e. omega arith) ∙ i.low q k;
+        same = length-set r (m + p) new ∙ i.same;
+        low = λ q k. get_or-set_other r (m + p) q new 0 (λ e. omega arith) ∙ i.low q k;
         high =
-            below_more _ p (λ q k. get_or_set_other r (m + p) (m + q) new 0 (λ e. omega arith) ∙ i.high q k)
-            (get_or_set_same r (m + p) new 0 (omega (arith, i.same)) ∙ ap (λ (x : ℕ). bit_xor x v) (i.low p h));
-        rest = λ q k. get_or_set_other r (m + p) q new 0 (λ e. omega arith) ∙ i.rest q k;
+            below_more _ p (λ q k. get_or-set_other r (m + p) (m + q) new 0 (λ e. omega arith) ∙ i.high q k)
+            (get_or-set_same r (m + p) new 0 (omega (arith, i.same)) ∙ ap (λ (x : ℕ). bit_xor x v) (i.low p h));
+        rest = λ q k. get_or-set_other r (m + p) q new 0 (λ e. omega arith) ∙ i.rest q k;
       }
 
   done : m ≤ p → Doubled m v l r

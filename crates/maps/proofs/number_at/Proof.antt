@@ -1,7 +1,7 @@
 -- `maps::number_at` meets its contract.
 use mathlib.Core.Path.{sym}
 use borrow.Author.Rules.{rules}
-use lib.ListN.{get_or_eq_default}
+use lib.ListN.{get_or-eq_default}
 use Rattle.maps.proofs.number_at.Statement.{statement}
 use Rattle.maps.proofs.number_at.Tie as tie
 
@@ -15,7 +15,7 @@ returns : tie.Need-returns
 returns c = search rules
 
 returns_2 : tie.Need-returns-2
-returns_2 c = sym (get_or_eq_default c.before.args.part.now 0 c.if1.false)
+returns_2 c = sym (get_or-eq_default c.before.args.part.now 0 c.if1.false)
 
 pub number_at_spec : {M : Type 1} → statement M
 number_at_spec = tie.close (tie.spec mul_result shared_slice_read_result returns returns_2)

@@ -4,8 +4,8 @@ use mathlib.Core.Path.{◌≡◌, subst}
 use mathlib.Core.List.{List}
 use native.Mathlib.Omega.{arith}
 use borrow.Author.Rules.{rules}
-use lib.ListN.{length, length_take, length_drop}
-use lib.Seq.{length_take_le}
+use lib.ListN.{length, length-take, length-drop}
+use lib.Seq.{length-take-le}
 use Rattle.kinds.specs.Edition.{edition1, Sized, sheet_places}
 use Rattle.kinds.specs.declared.Answer.TheVariants.{Done}
 use Rattle.kinds.proofs.AnswerLaws.{not_both}
@@ -56,7 +56,7 @@ part_open_side_end : tie.Need-slice-bounds-open-side-end
 part_open_side_end c = omega (arith, (sound c).1)
 
 open_side_requires : tie.Need-open-side-requires
-open_side_requires c κs = length_take_le 32 (s c.before) (omega (arith, (sound c.before).1))
+open_side_requires c κs = length-take-le 32 (s c.before) (omega (arith, (sound c.before).1))
 
 sub_open_side_2 : tie.Need-overflow-sub-open-side-2
 sub_open_side_2 c = omega (arith, (sound c.before.before).1)
@@ -68,7 +68,7 @@ part_open_side_end_2 : tie.Need-slice-bounds-open-side-end-2
 part_open_side_end_2 c = omega (arith, (sound c.before.before).1)
 
 open_side_requires_2 : tie.Need-open-side-requires-2
-open_side_requires_2 c κs = simp (length_take, length_drop) (omega (arith, (sound c.before.before.before).1))
+open_side_requires_2 c κs = simp (length-take, length-drop) (omega (arith, (sound c.before.before.before).1))
 
 returns_2 : tie.Need-returns-2
 returns_2 c =

@@ -4,8 +4,8 @@ use mathlib.Core.Path.{◌≡◌, sym, ap, ◌∙◌}
 use mathlib.Core.List.{List}
 use native.Mathlib.Omega.{arith}
 use borrow.Author.Rules.{rules}
-use lib.ListN.{drop, length, length_drop}
-use lib.Seq.{length_take_le}
+use lib.ListN.{drop, length, length-drop}
+use lib.Seq.{length-take-le}
 use Rattle.kinds.specs.Edition.{edition1, side_places, Sized}
 use Rattle.sheet.specs.Sheet.{address_places, wiring_places, count_place, stage_places, stages_in, side_of, flat}
 use Rattle.sheet.specs.Layout.{FormedSide}
@@ -26,7 +26,7 @@ module _ (k : ℕ) (l : List ℕ) (whole : length l ≡ side_places edition1) (n
   count = count_place edition1 l
 
   long : length stage_places_law ≡ 16
-  long = length_drop 16 l ∙ omega arith
+  long = length-drop 16 l ∙ omega arith
 
   stages_in_law : padded stage_places_law ≡ padded (flat (stages_in count stage_places_law))
   stages_in_law =
@@ -36,8 +36,8 @@ module _ (k : ℕ) (l : List ℕ) (whole : length l ≡ side_places edition1) (n
   shows : {ds ws ss : List ℕ} → ds ≡ padded (address_places edition1 l) → ws ≡ padded (wiring_places edition1 l) → ss ≡ padded stage_places_law
       → Shows n k (record { k = k; addresses = ds; wiring = ws; stages = ss }) (side_of edition1 n k l)
   shows a w s =
-      let addresses = length_take_le 10 l (omega arith) in
-      let wiring = length_take_le 5 (drop 10 l) (omega (arith, length_drop 10 l)) in
+      let addresses = length-take-le 10 l (omega arith) in
+      let wiring = length-take-le 5 (drop 10 l) (omega (arith, length-drop 10 l)) in
       record {
         is = is
             (a ∙ padded_used array_width n (address_places edition1 l) (omega (arith, addresses)) formed.addresses_unused)
@@ -45,8 +45,8 @@ module _ (k : ℕ) (l : List ℕ) (whole : length l ≡ side_places edition1) (n
             (s ∙ stages_in_law);
         ports = omega (arith, sized.most);
         words = omega (arith, sized.frame.most);
-        addresses = length_take_le n (address_places edition1 l) (omega (arith, addresses, sized.frame.most));
-        wiring = length_take_le k (wiring_places edition1 l) (omega (arith, wiring, sized.most));
+        addresses = length-take-le n (address_places edition1 l) (omega (arith, addresses, sized.frame.most));
+        wiring = length-take-le k (wiring_places edition1 l) (omega (arith, wiring, sized.most));
         stages = omega (arith, stages_length count stage_places_law, formed.count);
         used = formed.used;
       }

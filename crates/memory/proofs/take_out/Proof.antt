@@ -3,12 +3,12 @@ use Prim.Native.Nat.{ℕ, ◌+◌, ◌-◌, ◌≤◌, ◌<◌}
 use mathlib.Core.Path.{◌≡◌, refl, sym, ◌∙◌}
 use mathlib.Core.List.{List, ◌++◌}
 use native.Mathlib.Decide.{dec_le}
-use native.Mathlib.Nat.{zero_add}
-use native.Mathlib.Numerals.{add_one}
+use native.Mathlib.Nat.{zero-add}
+use native.Mathlib.Numerals.{add-one}
 use native.Mathlib.Omega.{arith}
 use borrow.Author.Rules.{rules}
 use mir.Facts.{Fits-widen}
-use lib.ListN.{length, get_or, set, take, drop, length_set, length_map, get_or_map}
+use lib.ListN.{length, get_or, set, take, drop, length-set, length-map, get_or-map}
 use lib.Seq.{paste-suc, take-length}
 use Rattle.kinds.specs.Answers.{over_front}
 use Rattle.kinds.proofs.TruthLaws.{holds_yes, holds_no}
@@ -32,16 +32,16 @@ module _ {cells out₀ words marks₀ out marks : List ℕ} {p : ℕ} (i : Takin
   all = words_at cells words
 
   as_many : length all ≡ length cells
-  as_many = length_map cells (λ x. get_or words x 0)
+  as_many = length-map cells (λ x. get_or words x 0)
 
   onward : p < length cells → Taking cells out₀ words marks₀ (set out p (get_or words (get_or cells p 0) 0)) (set marks (get_or cells p 0) 0) (p + 1)
   onward h = record {
     within = omega arith;
     room = i.room;
-    same = length_set out p (get_or words (get_or cells p 0) 0) ∙ i.same;
+    same = length-set out p (get_or words (get_or cells p 0) 0) ∙ i.same;
     front =
-        rw (i.front, ← get_or_map (λ x. get_or words x 0) cells p 0, add_one p)
-        (simp zero_add at (paste-suc out₀ 0 all p (get_or words 0 0) (omega (arith, i.room)) (omega (arith, as_many))));
+        rw (i.front, ← get_or-map (λ x. get_or words x 0) cells p 0, add-one p)
+        (simp zero-add at (paste-suc out₀ 0 all p (get_or words 0 0) (omega (arith, i.room)) (omega (arith, as_many))));
     clears = mark_more 0 i.clears h;
   }
 

@@ -9,9 +9,9 @@ use borrow.Author.Count.{below_none, below_more}
 use borrow.Author.Rules.{rules}
 use lib.Bits.{bit_xor}
 use lib.Count.{count_trailing_zeros}
-use lib.ListN.{length, get_or, set, length_set}
-use lib.Pow.{pow_lt}
-use lib.Seq.{get_or_set_same, get_or_set_other}
+use lib.ListN.{length, get_or, set, length-set}
+use lib.Pow.{pow-lt}
+use lib.Seq.{get_or-set_same, get_or-set_other}
 use Rattle.bits.proofs.XorLaws.{xor_cancel}
 use Rattle.bits.proofs.ImageLaws.{image_zero, image_xor}
 use Rattle.bits.proofs.NextLaws.{trailing_lt, next_xor}
@@ -39,7 +39,7 @@ module _ {n : ℕ} {C f s g : List ℕ} {p i : ℕ} (m : Moving n C f s g p i) (
   word = omega arith
 
   narrow : 2 ^ n < 2 ^ (most_scanned + 1)
-  narrow = pow_lt {i = n} {j = most_scanned + 1} (omega arith)
+  narrow = pow-lt {i = n} {j = most_scanned + 1} (omega arith)
 
   at_place : p ≡ place C i
   at_place = m.here word
@@ -65,13 +65,13 @@ module _ {n : ℕ} {C f s g : List ℕ} {p i : ℕ} (m : Moving n C f s g p i) (
       few = m.frames.few;
       order = m.frames.order;
       came = m.frames.came;
-      leaves = length_set g p (get_or f i 0) ∙ m.frames.leaves;
+      leaves = length-set g p (get_or f i 0) ∙ m.frames.leaves;
     };
     steps = m.steps;
     here = step;
     each =
-        below_more _ i (λ l k. get_or_set_other g p (place C l) (get_or f i 0) 0 (apart l k) ∙ m.each l k)
-        (rw (← at_place) (get_or_set_same g p (get_or f i 0) 0 target));
+        below_more _ i (λ l k. get_or-set_other g p (place C l) (get_or f i 0) 0 (apart l k) ∙ m.each l k)
+        (rw (← at_place) (get_or-set_same g p (get_or f i 0) 0 target));
   }
 
 done : {n : ℕ} {C f s g : List ℕ} {p i : ℕ} → Moving n C f s g p i → length f ≤ i → Moved n C f g

@@ -6,8 +6,8 @@ use native.Mathlib.Omega.{arith}
 use borrow.Author.Count.{below_none, below_more}
 use borrow.Author.Rules.{rules}
 use lib.Bits.{bit_xor}
-use lib.ListN.{length, get_or, set, length_set}
-use lib.Seq.{get_or_set_same, get_or_set_other}
+use lib.ListN.{length, get_or, set, length-set}
+use lib.Seq.{get_or-set_same, get_or-set_other}
 use Rattle.bits.proofs.ImageLaws.{image_zero, image_xor, image_unit}
 use Rattle.bits.proofs.NextLaws.{ones_more}
 use Rattle.order.specs.Order.{place}
@@ -25,11 +25,11 @@ more {C} {s} {sum} {j} i h =
     let next = bit_xor sum (get_or C j 0) in
     let total : next ≡ place C (2 ^ (j + 1) - 1) = rw (i.total, ← image_unit C j, ← image_xor C (2 ^ j - 1) (2 ^ j), ones_more j) in
     record {
-      fits = rw (length_set s j next) i.fits;
+      fits = rw (length-set s j next) i.fits;
       total = total;
       each =
-          below_more _ j (λ l k. get_or_set_other s j l next 0 (omega arith) ∙ i.each l k)
-          (get_or_set_same s j next 0 (omega arith) ∙ total);
+          below_more _ j (λ l k. get_or-set_other s j l next 0 (omega arith) ∙ i.each l k)
+          (get_or-set_same s j next 0 (omega arith) ∙ total);
     }
 
 abbrev invariant_loop : tie.invariant_loop

@@ -5,9 +5,9 @@ use mathlib.Core.List.{List}
 use native.Mathlib.Omega.{arith}
 use borrow.Author.Count.{below_none, below_more}
 use borrow.Author.Rules.{rules}
-use lib.ListN.{length, get_or, set, length_set}
-use lib.Pow.{pow_lt}
-use lib.Seq.{get_or_set_same, get_or_set_other}
+use lib.ListN.{length, get_or, set, length-set}
+use lib.Pow.{pow-lt}
+use lib.Seq.{get_or-set_same, get_or-set_other}
 use Rattle.span.specs.Held.{Holds}
 use Rattle.span.specs.Tools.{Asks}
 use Rattle.span.specs.declared.Scan.{Scan}
@@ -32,10 +32,10 @@ module _ {scan : Scan} {out₀ out : List ℕ} {b : ℕ} (i : Writing scan out�
   more : {unit r : ℕ} → b < length out → unit ≡ 2 ^ b → Asks scan unit r → Writing scan out₀ (set out b r) (b + 1)
   more {r = r} l e a = record {
     few = i.few;
-    same = length_set out b r ∙ i.same;
+    same = length-set out b r ∙ i.same;
     columns = λ C h o. below_more (Column out₀ (set out b r) C) b
-        (λ k m. rw (get_or_set_other out b k r 0 (λ q. omega arith)) (i.columns C h o k m))
-        (rw (get_or_set_same out b r 0 l) (order_asked o h (pow_lt (omega arith)) (rw e at a)));
+        (λ k m. rw (get_or-set_other out b k r 0 (λ q. omega arith)) (i.columns C h o k m))
+        (rw (get_or-set_same out b r 0 l) (order_asked o h (pow-lt (omega arith)) (rw e at a)));
   }
 
   done : length out ≤ b → UndoesHeld scan out₀ out
@@ -57,7 +57,7 @@ two_to_requires : tie.Need-two-to-requires invariant_loop decreases_loop
 two_to_requires c κs = search rules
 
 cast_unit : tie.Need-overflow-cast-unit invariant_loop decreases_loop
-cast_unit c = omega (arith, c.two_to.ensures.fits (omega arith), pow_lt {i = c.before.before.loop.b} {j = 16} (omega arith))
+cast_unit c = omega (arith, c.two_to.ensures.fits (omega arith), pow-lt {i = c.before.before.loop.b} {j = 16} (omega arith))
 
 mask_of_requires : tie.Need-mask-of-requires invariant_loop decreases_loop
 mask_of_requires c κs = search rules

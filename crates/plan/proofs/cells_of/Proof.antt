@@ -5,7 +5,7 @@ use mathlib.Core.List.{List, map}
 use native.Mathlib.Nat.{div-le_self, mod-le, lt_of_le_of_lt}
 use borrow.Author.Rules.{rules}
 use mir.Facts.{Fits-widen}
-use lib.ListN.{length, get_or, set, replicate, length_map}
+use lib.ListN.{length, get_or, set, replicate, length-map}
 use Rattle.kinds.specs.Frame.{tick_of}
 use Rattle.bits.specs.Padded.{array_width}
 use Rattle.bits.proofs.FillLaws.{Filled, fill_none, fill_value, fill_all}
@@ -20,7 +20,7 @@ record Drawn (k : ℕ) (G C addresses banks : List ℕ) (j : ℕ) : Type 0 where
   through : Filled array_width (map (bank_through k G) C) banks j
 
 start : (k : ℕ) (G C : List ℕ) → length C ≤ array_width → Drawn k G C (replicate array_width 0) (replicate array_width 0) 0
-start k G C room = record { ticks = fill_none (rw length_map room); through = fill_none (rw length_map room) }
+start k G C room = record { ticks = fill_none (rw length-map room); through = fill_none (rw length-map room) }
 
 module _ {k : ℕ} {G C addresses banks : List ℕ} {j : ℕ} (d : Drawn k G C addresses banks j) where
   more : {address bank : ℕ} → j < length C → address ≡ tick_of k (get_or C j 0) → bank ≡ bank_through k G (get_or C j 0)
@@ -28,7 +28,7 @@ module _ {k : ℕ} {G C addresses banks : List ℕ} {j : ℕ} (d : Drawn k G C a
   more h a b = record { ticks = fill_value (tick_of k) C d.ticks h a; through = fill_value (bank_through k G) C d.through h b }
 
   done : length C ≤ j → ◌≡◌ {A = Cells} (record { addresses = addresses; banks = banks }) (drawn k G C)
-  done end = ap₂ (λ (l m : List ℕ). record { addresses = l; banks = m }) (fill_all d.ticks (rw length_map end)) (fill_all d.through (rw length_map end))
+  done end = ap₂ (λ (l m : List ℕ). record { addresses = l; banks = m }) (fill_all d.ticks (rw length-map end)) (fill_all d.through (rw length-map end))
 
 abbrev invariant_loop : tie.invariant_loop
 invariant_loop places k stages addresses₀ banks₀ j₀ addresses banks j = Drawn k stages places addresses banks j

@@ -2,12 +2,12 @@
 use Prim.Native.Nat.{ℕ, ◌≤◌, ◌<◌, ◌+◌, ◌-◌}
 use mathlib.Core.Path.{◌≡◌, refl, sym, ap, ap₂, ◌∙◌}
 use mathlib.Core.Bool.{Bool, true, false}
-use mathlib.Core.List.{List, [], ◌∷◌, ◌++◌, map, map_append}
+use mathlib.Core.List.{List, [], ◌∷◌, ◌++◌, map, map-append}
 use mathlib.Core.Logic.{⊎_elim}
-use native.Mathlib.Numerals.{add_one}
+use native.Mathlib.Numerals.{add-one}
 use native.Mathlib.Omega.{arith}
 use borrow.Author.Rules.{rules}
-use lib.ListN.{length, get_or, take, set, replicate, length_map, length_append}
+use lib.ListN.{length, get_or, take, set, replicate, length-map, length-append}
 use lib.Seq.{take_all, take_at}
 use Rattle.kinds.specs.Edition.{edition1}
 use Rattle.kinds.specs.Answers.{Says}
@@ -55,11 +55,11 @@ start room masked = record { room = room; masked = masked; within = omega arith;
 one_more : (f : ℕ → ℕ) (ps : List ℕ) (p count : ℕ) {numbers : List ℕ} {new : ℕ} → count ≡ length ps → count < array_width → numbers ≡ padded (map f ps) → new ≡ f p
     → set numbers count new ≡ padded (map f (ps ++ (p ∷ [])))
 one_more f ps p count {new = new} counted room is e =
-    let here : count ≡ length (map f ps) = counted ∙ sym (length_map ps f) in
+    let here : count ≡ length (map f ps) = counted ∙ sym (length-map ps f) in
     ap₂ (λ (ns : List ℕ) (m : ℕ). set ns m new) is here
     ∙ padded_snoc array_width (map f ps) new (omega (arith, here))
     ∙ ap (λ (x : ℕ). padded (map f ps ++ (x ∷ []))) e
-    ∙ ap padded (sym (map_append f ps (p ∷ [])))
+    ∙ ap padded (sym (map-append f ps (p ∷ [])))
 
 module _ {F ms directions controls : List ℕ} {count j : ℕ} (i : Keeping F ms directions controls count j) where
   module _ {b : Bool} (h : j < length F) (e : b ≡ kept_in ms j) where
@@ -71,21 +71,21 @@ module _ {F ms directions controls : List ℕ} {count j : ℕ} (i : Keeping F ms
 
     more : {control : ℕ} → b ≡ true → control ≡ row (take array_width ms) j → Keeping F ms (set directions count (get_or F j 0)) (set controls count control) (count + 1) (j + 1)
     more {control} taken c =
-        let next : kept_at F (j + 1) ≡ kept_at F j ++ (j ∷ []) = rw (add_one j) (kept_at_new F j (says.0 taken)) in
+        let next : kept_at F (j + 1) ≡ kept_at F j ++ (j ∷ []) = rw (add-one j) (kept_at_new F j (says.0 taken)) in
         let inside : count < array_width = omega (arith, i.few, i.room) in
         record {
           room = i.room;
           masked = i.masked;
           within = omega arith;
           few = omega (arith, i.few);
-          counted = rw next (omega (arith, i.counted, length_append (kept_at F j) (j ∷ [])));
+          counted = rw next (omega (arith, i.counted, length-append (kept_at F j) (j ∷ [])));
           front = rw next (one_more (direction_at F) (kept_at F j) j count i.counted inside i.front refl);
           behind = rw next (one_more (control_at F) (kept_at F j) j count i.counted inside i.behind (c ∙ ap (λ (l : List ℕ). row l j) whole));
         }
 
     skip : b ≡ false → Keeping F ms directions controls count (j + 1)
     skip left =
-        let same : kept_at F (j + 1) ≡ kept_at F j = rw (add_one j) (⊎_elim (λ new. absurd (denied says left new)) (kept_at_old F j) (kept_or_sum F j)) in
+        let same : kept_at F (j + 1) ≡ kept_at F j = rw (add-one j) (⊎_elim (λ new. absurd (denied says left new)) (kept_at_old F j) (kept_or_sum F j)) in
         record {
           room = i.room;
           masked = i.masked;
@@ -100,8 +100,8 @@ module _ {F ms directions controls : List ℕ} {count j : ℕ} (i : Keeping F ms
   wide =
       let ps = kept_at F j in
       let inside : length ps ≤ array_width = omega (arith, i.counted, i.few, i.within, i.room) in (
-        ap length i.front ∙ padded_length array_width (map (direction_at F) ps) (omega (arith, length_map ps (direction_at F))),
-        ap length i.behind ∙ padded_length array_width (map (control_at F) ps) (omega (arith, length_map ps (control_at F))),
+        ap length i.front ∙ padded_length array_width (map (direction_at F) ps) (omega (arith, length-map ps (direction_at F))),
+        ap length i.behind ∙ padded_length array_width (map (control_at F) ps) (omega (arith, length-map ps (control_at F))),
       )
 
   done : length F ≤ j → staged (take edition1.most_stages (pairs (take (count - 0) directions) (take (count - 0) controls))) ≡ staged (take edition1.most_stages (kept_stages_of F))
@@ -111,8 +111,8 @@ module _ {F ms directions controls : List ℕ} {count j : ℕ} (i : Keeping F ms
       let last : j ≡ length F = omega (arith, i.within) in
       ap (λ (ss : List Stage). staged (take edition1.most_stages ss))
       (ap₂ pairs
-      (ap (take (count - 0)) i.front ∙ padded_part array_width (map (direction_at F) ps) count (i.counted ∙ sym (length_map ps (direction_at F))))
-      (ap (take (count - 0)) i.behind ∙ padded_part array_width (map (control_at F) ps) count (i.counted ∙ sym (length_map ps (control_at F))))
+      (ap (take (count - 0)) i.front ∙ padded_part array_width (map (direction_at F) ps) count (i.counted ∙ sym (length-map ps (direction_at F))))
+      (ap (take (count - 0)) i.behind ∙ padded_part array_width (map (control_at F) ps) count (i.counted ∙ sym (length-map ps (control_at F))))
       ∙ paired F ps
       ∙ ap (λ (m : ℕ). map (kept_stage F) (kept_at F m)) last)
 

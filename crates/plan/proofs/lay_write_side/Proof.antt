@@ -4,7 +4,7 @@ use mathlib.Core.Path.{◌≡◌, refl, ap, ◌∙◌, sym}
 use mathlib.Core.List.{List, map}
 use native.Mathlib.Omega.{arith}
 use borrow.Author.Rules.{rules}
-use lib.ListN.{length, take, drop, length_map}
+use lib.ListN.{length, take, drop, length-map}
 use lib.Seq.{take_all}
 use Rattle.kinds.specs.Edition.{edition1}
 use Rattle.kinds.specs.Frame.{tick_bits, tick_of}
@@ -73,8 +73,8 @@ module _ (c : tie.After-cells-of) where
 
   wide : (length c.Cells-of.result.addresses ≡ array_width) × (length c.Cells-of.result.banks ≡ array_width)
   wide = (
-    ap (λ r. length r.addresses) c.Cells-of.ensures ∙ padded_length array_width (map (tick_of k) C) (omega (arith, length_map C (tick_of k), sound.order.count, narrow)),
-    ap (λ r. length r.banks) c.Cells-of.ensures ∙ padded_length array_width (map (bank_through k G) C) (omega (arith, length_map C (bank_through k G), sound.order.count, narrow)),
+    ap (λ r. length r.addresses) c.Cells-of.ensures ∙ padded_length array_width (map (tick_of k) C) (omega (arith, length-map C (tick_of k), sound.order.count, narrow)),
+    ap (λ r. length r.banks) c.Cells-of.ensures ∙ padded_length array_width (map (bank_through k G) C) (omega (arith, length-map C (bank_through k G), sound.order.count, narrow)),
   )
 
   module _ (ss : List Stage) (shows : ShowsStages start.args.read ss) (range : StagesInRange n k ss) where
@@ -110,7 +110,7 @@ module _ (c : tie.After-cells-of) where
     addresses : take 10 (take (n - 0) c.Cells-of.result.addresses) ≡ W.addresses
     addresses =
         ap (λ r. take 10 (take (n - 0) r.addresses)) c.Cells-of.ensures
-        ∙ ap (take 10) (padded_part array_width (map (tick_of k) C) n (sym (length_map C (tick_of k) ∙ sound.order.count))
+        ∙ ap (take 10) (padded_part array_width (map (tick_of k) C) n (sym (length-map C (tick_of k) ∙ sound.order.count))
         ∙ addresses_drawn n k ss C within sound.order read)
         ∙ take_all 10 W.addresses (omega (arith, write.addresses, sound.sized.frame.most))
 

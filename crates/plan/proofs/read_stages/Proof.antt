@@ -5,7 +5,7 @@ use mathlib.Core.Bool.{true, false}
 use mathlib.Core.List.{List, ◌++◌}
 use native.Mathlib.Omega.{arith}
 use borrow.Author.Rules.{rules}
-use lib.ListN.{length, get_or, take, length_take}
+use lib.ListN.{length, get_or, take, length-take}
 use lib.Seq.{take_all}
 use Rattle.kinds.specs.Edition.{edition1}
 use Rattle.span.specs.Scan.{mask, masks, units}
@@ -90,7 +90,7 @@ module _ (c : tie.After-list-rows2) where
       let ports = take (k - 0) C in
       ap (take (n - 0)) (c.before.before.before.before.before.before.before.rows_of_lem.ensures
       ∙ ap (λ (m : ℕ). padded (rows m (take array_width ports))) {x = min n array_width} {y = n} (omega (arith, start.pre.sized.frame.most))
-      ∙ ap (λ (l : List ℕ). padded (rows n l)) (take_all array_width ports (omega (arith, length_take (k - 0) C, within, start.pre.sized.frame.most))))
+      ∙ ap (λ (l : List ℕ). padded (rows n l)) (take_all array_width ports (omega (arith, length-take (k - 0) C, within, start.pre.sized.frame.most))))
       ∙ padded_part array_width (rows n ports) n (sym (rows_length n ports))
       ∙ ap (λ (m : ℕ). rows n (take m C)) {x = k - 0} {y = k} (omega arith)
       ∙ rows_together n k C within start.pre.order.count

@@ -1,10 +1,10 @@
 -- `plan::write_sheet` meets its contract. Each side is laid out in its half of the sheet.
 use Prim.Native.Nat.{ℕ, ◌+◌, ◌-◌}
 use mathlib.Core.Path.{◌≡◌, sym, ap, ap₂, ◌∙◌}
-use mathlib.Core.List.{List, ◌++◌, append_nil}
+use mathlib.Core.List.{List, ◌++◌, append-nil}
 use native.Mathlib.Omega.{arith}
 use borrow.Author.Rules.{rules}
-use lib.ListN.{length, take, drop, length_take, length_drop, drop_of_length_le}
+use lib.ListN.{length, take, drop, length-take, length-drop, drop_of_length-le}
 use lib.Seq.{drop-append_seam}
 use Rattle.plan.proofs.write_sheet.Statement.{statement}
 use Rattle.plan.proofs.write_sheet.Tie as tie
@@ -12,11 +12,11 @@ use Rattle.plan.proofs.write_sheet.Tie as tie
 -- the last m places of a sheet of 2m, once they are written
 last_places : (m : ℕ) (s r : List ℕ) → length s ≡ m + m → drop m (take m s ++ (r ++ drop (length s - m) (drop m s))) ≡ r
 last_places m s r whole =
-    let first : length (take m s) ≡ m = omega (arith, length_take m s) in
+    let first : length (take m s) ≡ m = omega (arith, length-take m s) in
     ap (λ (x : ℕ). drop x (take m s ++ (r ++ drop (length s - m) (drop m s)))) (sym first)
     ∙ drop-append_seam (take m s) (r ++ drop (length s - m) (drop m s))
-    ∙ ap (λ (l : List ℕ). r ++ l) (drop_of_length_le (drop m s) {i = length s - m} (omega (arith, length_drop m s)))
-    ∙ append_nil r
+    ∙ ap (λ (l : List ℕ). r ++ l) (drop_of_length-le (drop m s) {i = length s - m} (omega (arith, length-drop m s)))
+    ∙ append-nil r
 
 sub_lay_read_side : tie.Need-overflow-sub-lay-read-side
 sub_lay_read_side c = search rules
@@ -30,7 +30,7 @@ part_lay_read_side_end c = search rules
 lay_read_side_requires : tie.Need-lay-read-side-requires
 lay_read_side_requires c κs =
     let start = c.before.before.before in
-    record { sized = start.requires.ordered.sized; side = simp (length_take, length_drop) (omega (arith, start.requires.places)) }
+    record { sized = start.requires.ordered.sized; side = simp (length-take, length-drop) (omega (arith, start.requires.places)) }
 
 sub_lay_write_side : tie.Need-overflow-sub-lay-write-side
 sub_lay_write_side c = search rules
@@ -44,7 +44,7 @@ part_lay_write_side_end c = search rules
 lay_write_side_requires : tie.Need-lay-write-side-requires
 lay_write_side_requires c κs =
     let start = c.before.before.before.before.before.before.before in
-    record { ordered = start.requires.ordered; side = simp (length_take, length_drop) (omega (arith, c.before.before.sheet.given.1, start.requires.places)) }
+    record { ordered = start.requires.ordered; side = simp (length-take, length-drop) (omega (arith, c.before.before.sheet.given.1, start.requires.places)) }
 
 same_length : tie.Need-same-length
 same_length c = search rules

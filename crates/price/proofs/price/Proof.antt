@@ -6,12 +6,12 @@ use mathlib.Core.Option.{none}
 use borrow.Author.Rules.{rules}
 use mir.Syntax.{w16, w32}
 use mir.Val.{Fits}
-use native.Mathlib.Nat.{add_mul, mul-le-mul}
+use native.Mathlib.Nat.{add-mul, mul-le-mul}
 use mir.Facts.{Fits-widen}
 use native.Mathlib.Omega.{arith}
-use lib.ListN.{length, get_or, take, drop, length_drop}
+use lib.ListN.{length, get_or, take, drop, length-drop}
 use lib.Pow.{pow_mono}
-use lib.Seq.{get_or_take, get_or_drop, length_take_le}
+use lib.Seq.{get_or-take, get_or-drop, length-take-le}
 use Rattle.kinds.specs.Edition.{edition1, Sized}
 use Rattle.kinds.specs.Frame.{tick_bits}
 use Rattle.kinds.specs.First.{first_of}
@@ -33,10 +33,10 @@ use Rattle.price.proofs.price.Tie as tie
 -- where a sheet of 64 places has the counts and the stages of its sides
 module _ (s : List ℕ) where
   write_count_law : get_or s 15 0 ≡ count_place edition1 (write_places edition1 s)
-  write_count_law = sym (get_or_take 32 s 15 0 (omega arith))
+  write_count_law = sym (get_or-take 32 s 15 0 (omega arith))
 
   read_count : get_or s 47 0 ≡ count_place edition1 (read_places edition1 s)
-  read_count = sym (get_or_drop 32 s 15 0)
+  read_count = sym (get_or-drop 32 s 15 0)
 
   write_stages : take 16 (drop 16 s) ≡ stage_places edition1 (write_places edition1 s)
   write_stages = unused_part s 0 16 32 16 32 (omega arith) (omega arith)
@@ -49,7 +49,7 @@ module _ (s : List ℕ) where
       ∙ ap₂ ◌+◌ (total_const b (stage_places edition1 (write_places edition1 s)) (count_place edition1 (write_places edition1 s)))
       (total_const b (stage_places edition1 (read_places edition1 s)) (count_place edition1 (read_places edition1 s)))
       ∙ ap₂ (λ (w r : ℕ). w * b + r * b) (sym write_count_law) (sym read_count)
-      ∙ sym (add_mul (get_or s 15 0) (get_or s 47 0) b)
+      ∙ sym (add-mul (get_or s 15 0) (get_or s 47 0) b)
 
 module _ {x y : ℕ} (f : Fits w16 x) (g : Fits w16 y) where
   sum_fits : Fits w32 (x + y)
@@ -165,7 +165,7 @@ part_xor_gates_end c = omega (arith, places c.before.before.before)
 xor_gates_requires : tie.Need-xor-gates-requires
 xor_gates_requires c κs =
     let at = told c.before in
-    controlled (write_count_law (s at)) (write_stages (s at)) (length_take_le 32 (s at) (omega (arith, places at))) (sound at).2.write
+    controlled (write_count_law (s at)) (write_stages (s at)) (length-take-le 32 (s at) (omega (arith, places at))) (sound at).2.write
 
 add_xor_gates : tie.Need-overflow-add-xor-gates
 add_xor_gates c = search rules
@@ -186,7 +186,7 @@ xor_gates_requires_2 : tie.Need-xor-gates-requires-2
 xor_gates_requires_2 c κs =
     let at = told c.before.before.before in
     let half : length (s at) - 32 ≡ 32 = omega (arith, places at) in
-    controlled (read_count (s at)) (read_stages_law (s at)) (length_drop 32 (s at) ∙ half) (sound at).2.read
+    controlled (read_count (s at)) (read_stages_law (s at)) (length-drop 32 (s at) ∙ half) (sound at).2.read
 
 mul_multiplexers : tie.Need-overflow-mul-multiplexers
 mul_multiplexers c =

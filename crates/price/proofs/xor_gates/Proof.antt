@@ -5,7 +5,7 @@ use mathlib.Core.List.{List}
 use borrow.Author.Rules.{rules}
 use mir.Facts.{Fits-widen}
 use native.Mathlib.Omega.{arith}
-use lib.Count.{ones, ones_le}
+use lib.Count.{ones, ones-le}
 use Rattle.bits.proofs.ParityLaws.{ones_least}
 use Rattle.sheet.specs.Sheet.{stages_in, stage_at}
 use Rattle.price.specs.Price.{total, xor_gates_of}
@@ -59,7 +59,7 @@ module _ (c : tie.After-shared-slice-known invariant_loop decreases_loop) where
       ((each_stage (λ s. 1 ≤ s.control) start.args.stages.now start.args.count).0 start.pre.controls c.before.before.loop.s c.before.loop-test.true)
 
   most : ones control ≤ 16
-  most = ones_le 16 control (omega (arith, c.shared-slice-known.given (2 * c.before.before.loop.s + 1)))
+  most = ones-le 16 control (omega (arith, c.shared-slice-known.given (2 * c.before.before.loop.s + 1)))
 
 sub_gates : tie.Need-overflow-sub-gates invariant_loop decreases_loop
 sub_gates c = omega (arith, least c)

@@ -7,7 +7,7 @@ use native.Mathlib.Decide.{dec_lt}
 use native.Mathlib.Omega.{arith}
 use borrow.Author.Count.{below_none, below_more}
 use borrow.Author.Rules.{rules}
-use borrow.Author.Tests.{leb_true, not-true, not-false}
+use borrow.Author.Tests.{leb-true, not-true, not-false}
 use mir.Facts.{Fits-widen}
 use lib.ListN.{length, get_or}
 use lib.Pow.{pow_mono}
@@ -30,7 +30,7 @@ decreases_loop masks j₀ j = length masks - j
 -- a mask has 16 bits
 one_more : (ms : List ℕ) {j : ℕ} → AllKept ms j → get_or ms j 0 < 2 ^ 16 → kept_in ms j ≡ true → AllKept ms (j + 1)
 one_more ms {j} all fits own = record {
-  few = elim (dec_lt j array_width) [ yes h ↦ omega arith | no beyond ↦ absurd (omega (arith, leb_true (2 ^ j) (get_or ms j 0) own, fits, pow_mono {i = 16} {j = j} (omega arith))) ];
+  few = elim (dec_lt j array_width) [ yes h ↦ omega arith | no beyond ↦ absurd (omega (arith, leb-true (2 ^ j) (get_or ms j 0) own, fits, pow_mono {i = 16} {j = j} (omega arith))) ];
   kept = below_more (λ i. kept_in ms i ≡ true) j all.kept own;
 }
 

@@ -1,13 +1,13 @@
 -- `rows::list_rows` meets its contract. The invariant: what is listed of the positions from a to i - 1 stands in the array.
 use Prim.Native.Nat.{ℕ, suc, ◌+◌, ◌-◌, ◌^◌, ◌≤◌, ◌<◌, min}
 use mathlib.Core.Path.{◌≡◌, sym, ap₂, ◌∙◌}
-use mathlib.Core.Bool.{Bool, beq, Bool_discrete}
-use mathlib.Core.List.{List, [], ◌∷◌, ◌++◌, map_append}
+use mathlib.Core.Bool.{Bool, beq, Bool-discrete}
+use mathlib.Core.List.{List, [], ◌∷◌, ◌++◌, map-append}
 use mathlib.Core.Logic.{⊎_elim}
 use native.Mathlib.Omega.{arith}
 use borrow.Author.Rules.{rules}
-use lib.ListN.{length, set, replicate, length_append}
-use lib.Pow.{pow_lt}
+use lib.ListN.{length, set, replicate, length-append}
+use lib.Pow.{pow-lt}
 use Rattle.kinds.specs.Answers.{Says}
 use Rattle.kinds.specs.Search.{those}
 use Rattle.kinds.proofs.SearchLaws.{those_new, those_old}
@@ -39,11 +39,11 @@ module _ (ms : List ℕ) (a : ℕ) (kept : Bool) where
 
     listed_new : kept_in ms i ≡ kept → kept_numbers ms a (i + 1) kept ≡ kept_numbers ms a i kept ++ ((i - a) ∷ [])
     unfolding kept_numbers
-    listed_new e = rw next (those_new (λ j. Bool_discrete (kept_in ms (a + j)) kept) (i - a) (rw back e))
+    listed_new e = rw next (those_new (λ j. Bool-discrete (kept_in ms (a + j)) kept) (i - a) (rw back e))
 
     listed_old : ¬ (kept_in ms i ≡ kept) → kept_numbers ms a (i + 1) kept ≡ kept_numbers ms a i kept
     unfolding kept_numbers
-    listed_old n = rw next (those_old (λ j. Bool_discrete (kept_in ms (a + j)) kept) (i - a) (rw back n))
+    listed_old n = rw next (those_old (λ j. Bool-discrete (kept_in ms (a + j)) kept) (i - a) (rw back n))
 
 record Listing (ms : List ℕ) (a b : ℕ) (kept : Bool) (end : ℕ) (units : List ℕ) (count i : ℕ) : Type 0 where
   last : end ≡ min b array_width
@@ -71,11 +71,11 @@ module _ {ms : List ℕ} {a b : ℕ} {kept : Bool} {end : ℕ} {units : List ℕ
         let ps = kept_numbers ms a i kept in
         let new = listed_new ms a kept l.from e in
         let here : count ≡ length (unitsAt ps) = l.counted ∙ sym (units_length ps) in
-        step (omega arith) (rw new (omega (arith, length_append ps ((i - a) ∷ []))))
+        step (omega arith) (rw new (omega (arith, length-append ps ((i - a) ∷ []))))
         (es
         ∙ ap₂ (λ (ns : List ℕ) (j : ℕ). set ns j unit) l.front here
         ∙ padded_snoc array_width (unitsAt ps) unit (omega (arith, here, l.few, l.last))
-        ∙ rw (new, map_append (λ p. 2 ^ p) ps ((i - a) ∷ []), u))
+        ∙ rw (new, map-append (λ p. 2 ^ p) ps ((i - a) ∷ []), u))
 
     pass : ¬ (kept_in ms i ≡ kept) → more ≡ units → m ≡ count → Listing ms a b kept end more m (i + 1)
     pass n es c = let old = listed_old ms a kept l.from n in step (omega arith) (c ∙ rw old l.counted) (es ∙ rw old l.front)
@@ -110,7 +110,7 @@ two_to_requires : tie.Need-two-to-requires invariant_loop decreases_loop
 two_to_requires c κs = search rules
 
 cast_units : tie.Need-overflow-cast-units invariant_loop decreases_loop
-cast_units c = record { fits = rw (c.two_to.ensures.fits (omega arith)) (pow_lt {j = 16} (omega (arith, c.before.before.before.before.loop.invariant.last))) }
+cast_units c = record { fits = rw (c.two_to.ensures.fits (omega arith)) (pow-lt {j = 16} (omega (arith, c.before.before.before.before.loop.invariant.last))) }
 
 mul_units : tie.Need-overflow-mul-units invariant_loop decreases_loop
 mul_units c = search rules

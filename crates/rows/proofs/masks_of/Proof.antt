@@ -1,7 +1,7 @@
 -- `rows::masks_of` meets its contract.
 use native.Mathlib.Omega.{arith}
 use borrow.Author.Rules.{rules}
-use lib.ListN.{take, length_take}
+use lib.ListN.{take, length-take}
 use Rattle.span.specs.Scan.{masks}
 use Rattle.span.proofs.MaskLaws.{masks_length}
 use Rattle.bits.proofs.PaddedLaws.{padded_unique}
@@ -16,7 +16,7 @@ returns : tie.Need-returns
 returns c =
     let scans = c.before.scan-all.ensures in
     let taken = take array_width c.before.before.before.args.numbers.now in
-    padded_unique array_width (masks taken) c.before.scan-all.result.masks (omega (arith, masks_length taken, length_take array_width c.before.before.before.args.numbers.now))
+    padded_unique array_width (masks taken) c.before.scan-all.result.masks (omega (arith, masks_length taken, length-take array_width c.before.before.before.args.numbers.now))
     scans.places scans.masked
 
 pub masks_of_spec : {M : Type 1} → statement M

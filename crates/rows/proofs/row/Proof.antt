@@ -2,12 +2,12 @@
 use Prim.Native.Nat.{ℕ, suc, ◌+◌, ◌-◌, ◌*◌, ◌/◌, ◌%◌, ◌^◌, ◌≤◌, ◌<◌, min}
 use mathlib.Core.Path.{◌≡◌, sym, ap, ap₂, ◌∙◌}
 use mathlib.Core.List.{List, ◌∷◌}
-use native.Mathlib.Nat.{div_eq_of_lt}
+use native.Mathlib.Nat.{div-eq_of_lt}
 use native.Mathlib.Omega.{arith}
 use borrow.Author.Rules.{rules}
-use lib.ListN.{length, get_or, take, drop, length_take, length_drop}
+use lib.ListN.{length, get_or, take, drop, length-take, length-drop}
 use lib.Pow.{pow_mono}
-use lib.Seq.{get_or_take, drop_length, drop_cons}
+use lib.Seq.{get_or-take, drop-length, drop-cons}
 use Rattle.bits.specs.Padded.{array_width}
 use Rattle.bits.specs.Parity.{dot}
 use Rattle.bits.proofs.ParityLaws.{dot_unit}
@@ -23,10 +23,10 @@ none_there numbers i below h =
     ∙ dots_none (take array_width numbers) (2 ^ i)
     (λ j inside.
     let number = get_or numbers j 0 in
-    let here : j < array_width = omega (arith, length_take array_width numbers) in
-    ap (λ (x : ℕ). dot x (2 ^ i)) (get_or_take array_width numbers j 0 here)
+    let here : j < array_width = omega (arith, length-take array_width numbers) in
+    ap (λ (x : ℕ). dot x (2 ^ i)) (get_or-take array_width numbers j 0 here)
     ∙ dot_unit i number
-    ∙ ap (λ (x : ℕ). x % 2) (div_eq_of_lt (omega (arith, below j, pow_mono {i = 16} {j = i} h))))
+    ∙ ap (λ (x : ℕ). x % 2) (div-eq_of_lt (omega (arith, below j, pow_mono {i = 16} {j = i} h))))
 
 record Crossed (numbers : List ℕ) (i row j : ℕ) : Type 0 where
   narrow : i < array_width
@@ -36,11 +36,11 @@ record Crossed (numbers : List ℕ) (i row j : ℕ) : Type 0 where
 start : {numbers : List ℕ} {i end : ℕ} → i < array_width → end ≡ min (length numbers) array_width → Crossed numbers i 0 end
 start {numbers} {i} {end} narrow e =
     let taken = take array_width numbers in
-    let all : end ≡ length taken = omega (arith, length_take array_width numbers) in
+    let all : end ≡ length taken = omega (arith, length-take array_width numbers) in
     record {
       narrow = narrow;
       within = omega arith;
-      so_far = sym (ap (λ (l : List ℕ). row_in l i) (ap (λ (m : ℕ). drop m taken) all ∙ drop_length taken) ∙ row_nil i);
+      so_far = sym (ap (λ (l : List ℕ). row_in l i) (ap (λ (m : ℕ). drop m taken) all ∙ drop-length taken) ∙ row_nil i);
     }
 
 module _ {numbers : List ℕ} {i row j : ℕ} (r : Crossed numbers i row j) where
@@ -48,22 +48,22 @@ module _ {numbers : List ℕ} {i row j : ℕ} (r : Crossed numbers i row j) wher
   taken = take array_width numbers
 
   few : length taken ≤ array_width
-  few = omega (arith, length_take array_width numbers)
+  few = omega (arith, length-take array_width numbers)
 
   inside : j ≤ length numbers
-  inside = omega (arith, r.within, length_take array_width numbers)
+  inside = omega (arith, r.within, length-take array_width numbers)
 
   fits : row < 2 ^ 16
   fits =
-      let rest : length (drop j taken) ≤ 16 = omega (arith, length_drop j taken, few) in
+      let rest : length (drop j taken) ≤ 16 = omega (arith, length-drop j taken, few) in
       omega (arith, r.so_far, row_lt (drop j taken) i, pow_mono rest)
 
   more : 0 < j → Crossed numbers i (2 * row + get_or numbers (j - 1) 0 / 2 ^ i % 2) (j - 1)
   more h =
       let last = get_or numbers (j - 1) 0 in
       let back : suc (j - 1) ≡ j = omega arith in
-      let same : get_or taken (j - 1) 0 ≡ last = get_or_take array_width numbers (j - 1) 0 (omega (arith, r.within, few)) in
-      let here : drop (j - 1) taken ≡ last ∷ drop j taken = drop_cons taken (j - 1) 0 (omega (arith, r.within)) ∙ ap₂ (λ (x m : ℕ). x ∷ drop m taken) same back in
+      let same : get_or taken (j - 1) 0 ≡ last = get_or-take array_width numbers (j - 1) 0 (omega (arith, r.within, few)) in
+      let here : drop (j - 1) taken ≡ last ∷ drop j taken = drop-cons taken (j - 1) 0 (omega (arith, r.within)) ∙ ap₂ (λ (x m : ℕ). x ∷ drop m taken) same back in
       record {
         narrow = r.narrow;
         within = omega (arith, r.within);

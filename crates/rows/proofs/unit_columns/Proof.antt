@@ -2,11 +2,11 @@
 use Prim.Native.Nat.{ℕ, ◌+◌, ◌-◌, ◌^◌, ◌≤◌, ◌<◌, ◌/◌, min}
 use mathlib.Core.Path.{◌≡◌, sym, ◌∙◌}
 use mathlib.Core.List.{List}
-use native.Mathlib.Nat.{div_eq_of_lt}
+use native.Mathlib.Nat.{div-eq_of_lt}
 use native.Mathlib.Omega.{arith}
 use borrow.Author.Rules.{rules}
 use lib.ListN.{set, replicate}
-use lib.Pow.{pow_lt, shl_shr}
+use lib.Pow.{pow-lt, shl-shr}
 use Rattle.kinds.proofs.FrameLaws.{frame_whole}
 use Rattle.bits.specs.Image.{columns}
 use Rattle.bits.proofs.ImageLaws.{columns_length, columns_at}
@@ -30,7 +30,7 @@ start {a} {b} e =
     record {
       last = e;
       from = omega arith;
-      filled = fill_zeros (omega (arith, count)) (λ i h l. columns_at all (shifted a) i (omega (arith, count)) ∙ div_eq_of_lt (pow_lt h));
+      filled = fill_zeros (omega (arith, count)) (λ i h l. columns_at all (shifted a) i (omega (arith, count)) ∙ div-eq_of_lt (pow-lt h));
     }
 
 module _ {a b end : ℕ} {numbers : List ℕ} {j : ℕ} (t : Units a b end numbers j) where
@@ -38,7 +38,7 @@ module _ {a b end : ℕ} {numbers : List ℕ} {j : ℕ} (t : Units a b end numbe
   all = min b array_width
 
   unit_shifted : shifted a (2 ^ j) ≡ 2 ^ (j - a)
-  unit_shifted = rw (← frame_whole t.from) (shl_shr (2 ^ (j - a)) a)
+  unit_shifted = rw (← frame_whole t.from) (shl-shr (2 ^ (j - a)) a)
 
   more : {unit : ℕ} → j < end → unit ≡ 2 ^ (j - a) → Units a b end (set numbers j unit) (j + 1)
   more h e = record {
@@ -72,7 +72,7 @@ two_to_requires : tie.Need-two-to-requires invariant_loop decreases_loop
 two_to_requires c κs = search rules
 
 cast_columns : tie.Need-overflow-cast-columns invariant_loop decreases_loop
-cast_columns c = record { fits = rw (c.two_to.ensures.fits (omega arith)) (pow_lt {j = 16} (omega (arith, c.before.before.loop.invariant.last))) }
+cast_columns c = record { fits = rw (c.two_to.ensures.fits (omega arith)) (pow-lt {j = 16} (omega (arith, c.before.before.loop.invariant.last))) }
 
 mul_columns : tie.Need-overflow-mul-columns invariant_loop decreases_loop
 mul_columns c = search rules

@@ -5,10 +5,10 @@ use mathlib.Core.Bool.{false}
 use mathlib.Core.List.{List}
 use native.Mathlib.Omega.{arith}
 use borrow.Author.Rules.{rules}
-use borrow.Author.Tests.{lt_leb}
+use borrow.Author.Tests.{lt-leb}
 use mir.Facts.{Fits-widen}
 use lib.Dec.{leb}
-use lib.ListN.{length, get_or, get_or_eq_default}
+use lib.ListN.{length, get_or, get_or-eq_default}
 use lib.Pow.{pow_pos, pow_mono}
 use Rattle.bits.specs.Padded.{array_width}
 use Rattle.rows.specs.Listed.{kept_in}
@@ -17,10 +17,10 @@ use Rattle.rows.proofs.was_kept.Tie as tie
 
 -- a mask has 16 bits, and so has no number from 16 on a mask that is its own
 none_beyond : (ms : List ℕ) (i : ℕ) → ((j : ℕ) → get_or ms j 0 < 2 ^ 16) → array_width ≤ i → false ≡ kept_in ms i
-none_beyond ms i below h = sym (lt_leb (2 ^ i) (get_or ms i 0) (omega (arith, below i, pow_mono {i = 16} {j = i} h)))
+none_beyond ms i below h = sym (lt-leb (2 ^ i) (get_or ms i 0) (omega (arith, below i, pow_mono {i = 16} {j = i} h)))
 
 none_after : (ms : List ℕ) (i : ℕ) → length ms ≤ i → false ≡ kept_in ms i
-none_after ms i h = sym (lt_leb (2 ^ i) (get_or ms i 0) (omega (arith, pow_pos i, get_or_eq_default ms 0 h)))
+none_after ms i h = sym (lt-leb (2 ^ i) (get_or ms i 0) (omega (arith, pow_pos i, get_or-eq_default ms 0 h)))
 
 returns : tie.Need-returns
 returns c = let args = c.before.before.args in none_beyond args.masks.now args.i (λ j. (c.before.shared-slice-known.given j).fits) c.if1.true

@@ -6,7 +6,7 @@ use mathlib.Core.List.{List, ◌++◌}
 use native.Mathlib.Omega.{arith}
 use borrow.Author.Rules.{rules}
 use borrow.Author.Tests.{not-true, not-false}
-use lib.ListN.{length, length_take, length_drop}
+use lib.ListN.{length, length-take, length-drop}
 use Rattle.kinds.specs.Edition.{edition1, Sized, sheet_places}
 use Rattle.kinds.specs.Lengths.{Wanted, RightLengths}
 use Rattle.kinds.specs.Answers.{Says, Checks}
@@ -96,7 +96,7 @@ part_side_formed_end c = search rules
 
 side_formed_requires : tie.Need-side-formed-requires
 side_formed_requires c κs =
-    record { sized = sized c.before.before.before; places = simp (length_take, length_drop) (omega (arith, c.before.if3.false)) }
+    record { sized = sized c.before.before.before; places = simp (length-take, length-drop) (omega (arith, c.before.if3.false)) }
 
 returns_4 : tie.Need-returns-4
 returns_4 c =
@@ -114,7 +114,7 @@ part_side_formed_end_2 c = search rules
 side_formed_requires_2 : tie.Need-side-formed-requires-2
 side_formed_requires_2 c κs =
     let lengths = c.before.before.before.before in
-    record { sized = sized lengths.before.before; places = simp (length_take, length_drop) (omega (arith, lengths.if3.false)) }
+    record { sized = sized lengths.before.before; places = simp (length-take, length-drop) (omega (arith, lengths.if3.false)) }
 
 module _ (c : tie.After-side-formed2) where
   abbrev lengths : tie.Else3

@@ -8,7 +8,7 @@ use borrow.Author.Count.{below_none, below_more}
 use borrow.Author.Rules.{rules}
 use mir.Facts.{Fits-widen}
 use native.Mathlib.Omega.{arith}
-use lib.ListN.{length, get_or, get_or_eq_default}
+use lib.ListN.{length, get_or, get_or-eq_default}
 use Rattle.kinds.specs.Answers.{Says}
 use Rattle.kinds.proofs.TruthLaws.{says_no, says_yes}
 use Rattle.sheet.specs.Sheet.{Stage, stage_at, stages_in}
@@ -78,7 +78,7 @@ module _ (c : tie.Start invariant_loop decreases_loop) where
   none_there h =
       says_no (λ all.
       let last = length l / 2 in
-      let none : get_or l (2 * last + 1) 0 ≡ 0 = get_or_eq_default l 0 (omega arith) in
+      let none : get_or l (2 * last + 1) 0 ≡ 0 = get_or-eq_default l 0 (omega arith) in
       omega (arith, (each.0 all last h).control.least, none))
 
 returns : tie.Need-returns invariant_loop decreases_loop

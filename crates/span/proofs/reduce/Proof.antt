@@ -5,7 +5,7 @@ use mathlib.Core.Path.{ap}
 use mathlib.Core.List.{List}
 use mathlib.Core.Logic.{◌≢◌}
 use native.Mathlib.Decide.{ℕ_discrete}
-use native.Mathlib.Nat.{div_eq_of_lt}
+use native.Mathlib.Nat.{div-eq_of_lt}
 use native.Mathlib.Omega.{arith}
 use lib.Bits.{bit_xor, xor_self, xor_zero_r}
 use lib.Count.{count_leading_zeros}
@@ -24,7 +24,7 @@ start : {es : List ℕ} {e : ℕ} → e < 2 ^ (width + width) → Reducing es e 
 start {e = e} fits = record { fits = fits; made = λ vs h. rw (xor_self e) (made_zero vs) }
 
 done : {es : List ℕ} {e left : ℕ} → Reducing es e left → left < 2 ^ width → Reduces es e left
-done i short = record { made = i.made; stuck = λ vs h n. absurd (n (div_eq_of_lt short)) }
+done i short = record { made = i.made; stuck = λ vs h n. absurd (n (div-eq_of_lt short)) }
 
 module _ {es : List ℕ} {e left : ℕ} (i : Reducing es e left) (long : 2 ^ width ≤ left) where
   abbrev at : ℕ

@@ -8,12 +8,12 @@ use native.Mathlib.Decide.{dec_lt}
 use native.Mathlib.Omega.{arith}
 use borrow.Author.Count.{below_none, below_more}
 use borrow.Author.Rules.{rules}
-use borrow.Author.Tests.{leb_true, le_leb}
+use borrow.Author.Tests.{leb-true, le-leb}
 use mir.Facts.{Fits-widen}
 use lib.Count.{count_leading_zeros}
-use lib.Pow.{pow_lt}
-use lib.Seq.{get_or_set_same, get_or_set_other, get_or_take, take_all}
-use lib.ListN.{length, get_or, set, take, replicate, length_set, length_take, get_or_eq_default}
+use lib.Pow.{pow-lt}
+use lib.Seq.{get_or-set_same, get_or-set_other, get_or-take, take_all}
+use lib.ListN.{length, get_or, set, take, replicate, length-set, length-take, get_or-eq_default}
 use Rattle.kinds.specs.Answers.{Says}
 use Rattle.kinds.proofs.TruthLaws.{false≢true, says_no}
 use Rattle.bits.specs.Image.{AllBelow}
@@ -58,15 +58,15 @@ module _ {vs es ms : List ℕ} {b : Bool} {j : ℕ} (i : Scanning vs es ms b j) 
 
   module _ (inside : j < length first) where
     small : j < length ms
-    small = omega (arith, i.places, length_take most_scanned vs)
+    small = omega (arith, i.places, length-take most_scanned vs)
 
     more : {es' : List ℕ} {k c : Bool} {m : ℕ} → Stepped first j es' k m → Says c (AllKept vs (j + 1)) → Scanning vs es' (set ms j m) c (j + 1)
     more {m = m} step says = record {
       within = omega arith;
       echelon = step.echelon;
-      places = length_set ms j m ∙ i.places;
-      masked = below_more (λ l. get_or (set ms j m) l 0 ≡ mask first l) j (λ l h. get_or_set_other ms j l m 0 (omega arith) ∙ i.masked l h) (get_or_set_same ms j m 0 small ∙ step.masked);
-      rest = λ l h. get_or_set_other ms j l m 0 (omega arith) ∙ i.rest l (omega arith);
+      places = length-set ms j m ∙ i.places;
+      masked = below_more (λ l. get_or (set ms j m) l 0 ≡ mask first l) j (λ l h. get_or-set_other ms j l m 0 (omega arith) ∙ i.masked l h) (get_or-set_same ms j m 0 small ∙ step.masked);
+      rest = λ l h. get_or-set_other ms j l m 0 (omega arith) ∙ i.rest l (omega arith);
       says = says;
     }
 
@@ -85,7 +85,7 @@ module _ {vs es ms : List ℕ} {b : Bool} {j : ℕ} (i : Scanning vs es ms b j) 
     places = i.places;
     masked = λ l. elim (dec_lt l (length first)) [
       | yes h ↦ i.masked l (omega arith) ∙ sym (masks_at first l h)
-      | no out ↦ i.rest l (omega (arith, i.within)) ∙ sym (get_or_eq_default (masks first) 0 (omega (arith, masks_length first)))
+      | no out ↦ i.rest l (omega (arith, i.within)) ∙ sym (get_or-eq_default (masks first) 0 (omega (arith, masks_length first)))
     ];
     says = (
       λ e.
@@ -93,7 +93,7 @@ module _ {vs es ms : List ℕ} {b : Bool} {j : ℕ} (i : Scanning vs es ms b j) 
           rw (take_all most_scanned vs few) at (all_kept_independent first (λ l h. all l (omega arith))),
       λ independent.
           let few = independent_width width vs narrow independent in
-          i.says.1 (few, λ l h. rw (take_all most_scanned vs few) (independent_all_kept vs independent l (omega (arith, i.within, length_take most_scanned vs)))),
+          i.says.1 (few, λ l h. rw (take_all most_scanned vs few) (independent_all_kept vs independent l (omega (arith, i.within, length-take most_scanned vs)))),
     );
   }
 
@@ -107,7 +107,7 @@ at_most_16_requires : tie.Need-at-most-16-requires invariant_loop decreases_loop
 at_most_16_requires c κs = search rules
 
 loop_holds : tie.Need-loop-init invariant_loop decreases_loop
-loop_holds c = start _ (leb_true _ _, le_leb _ _)
+loop_holds c = start _ (leb-true _ _, le-leb _ _)
 
 mul_entry : tie.Need-overflow-mul-entry invariant_loop decreases_loop
 mul_entry c = search rules
@@ -138,10 +138,10 @@ module _ (c : tie.After-reduce invariant_loop decreases_loop) where
   low = omega (arith, c.before.before.before.loop-test.true, c.before.before.before.before.before.at-most-16.ensures)
 
   inside : j < length (take most_scanned numbers)
-  inside = omega (arith, length_take most_scanned numbers, c.before.before.before.loop-test.true, c.before.before.before.before.before.at-most-16.ensures)
+  inside = omega (arith, length-take most_scanned numbers, c.before.before.before.loop-test.true, c.before.before.before.before.before.at-most-16.ensures)
 
   number : get_or (take most_scanned numbers) j 0 ≡ get_or numbers j 0
-  number = get_or_take most_scanned numbers j 0 low
+  number = get_or-take most_scanned numbers j 0 low
 
   fits : get_or (take most_scanned numbers) j 0 < 2 ^ width
   fits = rw number (c.before.before.shared-slice-known2.given j).fits
@@ -171,7 +171,7 @@ array_write_entries : tie.Need-array-write-entries invariant_loop decreases_loop
 array_write_entries c = place c
 
 cast_masks : tie.Need-overflow-cast-masks invariant_loop decreases_loop
-cast_masks c = omega (arith, own c, pow_lt {i = c.before.before.before.before.before.before.loop.j} {j = width} (low c.before.before))
+cast_masks c = omega (arith, own c, pow-lt {i = c.before.before.before.before.before.before.loop.j} {j = width} (low c.before.before))
 
 mul_masks : tie.Need-overflow-mul-masks invariant_loop decreases_loop
 mul_masks c = omega (arith, low c.before.before)
@@ -208,7 +208,7 @@ loop_again c =
     c.if1.branch
 
 returns : tie.Need-returns invariant_loop decreases_loop
-returns c = done c.before.loop.invariant (λ l h. (c.before.before.before.shared-slice-known.given l).fits) (omega (arith, c.loop-test.false, c.before.before.at-most-16.ensures, length_take most_scanned c.before.before.before.before.args.numbers.now))
+returns c = done c.before.loop.invariant (λ l h. (c.before.before.before.shared-slice-known.given l).fits) (omega (arith, c.loop-test.false, c.before.before.at-most-16.ensures, length-take most_scanned c.before.before.before.before.args.numbers.now))
 
 pub scan_all_spec : {M : Type 1} → statement M
 scan_all_spec =

@@ -2,7 +2,7 @@
 use Prim.Native.Nat.{ℕ, ◌/◌, ◌%◌, ◌^◌, ◌<◌}
 use mathlib.Core.Path.{◌≡◌, sym, ap}
 use native.Mathlib.Decide.{dec_lt}
-use native.Mathlib.Nat.{mod_eq_of_lt, div_eq_of_lt}
+use native.Mathlib.Nat.{mod-eq_of_lt, div-eq_of_lt}
 use native.Mathlib.Omega.{arith}
 use borrow.Author.Rules.{rules}
 use lib.Pow.{pow_mono, pow_pos}
@@ -27,7 +27,7 @@ returns : tie.Need-returns
 returns c =
     let start = c.before.before in
     let small = beyond c.before.two_to.ensures c.if1.true start.args.i (omega (arith, start.well-formed)) in
-    (sym (div_eq_of_lt small), sym (mod_eq_of_lt small))
+    (sym (div-eq_of_lt small), sym (mod-eq_of_lt small))
 
 two_to_requires : tie.Need-two-to-requires
 two_to_requires c κs = search rules

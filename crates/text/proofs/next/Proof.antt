@@ -4,10 +4,10 @@ use mathlib.Core.Path.{◌≡◌, refl, sym, ap, ◌∙◌}
 use mathlib.Core.List.{List, ◌∷◌}
 use mathlib.Core.Option.{none-ne-some, some-injective}
 use borrow.Author.Rules.{rules}
-use native.Mathlib.Numerals.{add_one}
+use native.Mathlib.Numerals.{add-one}
 use native.Mathlib.Omega.{arith}
-use lib.ListN.{length, get_or, drop, drop_of_length_le}
-use lib.Seq.{drop_cons}
+use lib.ListN.{length, get_or, drop, drop_of_length-le}
+use lib.Seq.{drop-cons}
 use Rattle.kinds.specs.declared.Refusal.TheVariants.{Card}
 use Rattle.text.specs.Number.{NumberIs}
 use Rattle.text.specs.Numbers.{ending, Begins, NextIs}
@@ -27,11 +27,11 @@ module _ (b : List ℕ) (at : ℕ) where
   module _ (v e : ℕ) (read : NumberIs b at (Value v e)) where
     past : length b ≤ e → NextIs b at (Refused Card)
     past h =
-        nothing (λ w rest g. omega (arith, ap length (digits_unique (begins_digits g) read.2).1, ap length (drop_of_length_le b {i = e} h)))
+        nothing (λ w rest g. omega (arith, ap length (digits_unique (begins_digits g) read.2).1, ap length (drop_of_length-le b {i = e} h)))
 
     module _ (h : e < length b) where
       here : drop e b ≡ get_or b e 0 ∷ drop (e + 1) b
-      here = rw (add_one, drop_cons b e 0 h)
+      here = rw (add-one, drop-cons b e 0 h)
 
       ended : get_or b e 0 ≡ ending (drop (e + 1) b) → NextIs b at (Number v (e + 1))
       ended same = record {

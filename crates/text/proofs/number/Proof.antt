@@ -4,10 +4,10 @@ use mathlib.Core.Path.{◌≡◌, sym, ap, subst, ◌∙◌}
 use mathlib.Core.List.{List, ◌∷◌, ◌++◌}
 use mathlib.Core.Logic.{⊎_elim}
 use borrow.Author.Rules.{rules}
-use native.Mathlib.Numerals.{add_one}
+use native.Mathlib.Numerals.{add-one}
 use native.Mathlib.Omega.{arith}
-use lib.ListN.{length, get_or, drop, length_append, length_drop, drop_of_length_le}
-use lib.Seq.{drop_cons, append_snoc}
+use lib.ListN.{length, get_or, drop, length-append, length-drop, drop_of_length-le}
+use lib.Seq.{drop-cons, append_snoc}
 use Rattle.text.specs.Number.{IsDigit, NoDigit, Stops, NumberIs}
 use Rattle.text.specs.declared.Numeral.TheVariants.{Value, Bad}
 use Rattle.text.proofs.ReadLaws.{more, GoesOn, digits, Sofar, digits_more, digits_stop, digits_none, digits_end}
@@ -44,7 +44,7 @@ module _ {b : List ℕ} {at value place : ℕ} (r : Reads b at value place) wher
   )
 
   past : length b ≤ place → NoDigit (drop place b)
-  past h = rw (drop_of_length_le b {i = place} h) tt
+  past h = rw (drop_of_length-le b {i = place} h) tt
 
   module _ (h : place < length b) where
     abbrev byte : ℕ
@@ -54,13 +54,13 @@ module _ {b : List ℕ} {at value place : ℕ} (r : Reads b at value place) wher
     rest = drop (place + 1) b
 
     here : drop place b ≡ byte ∷ rest
-    here = rw (add_one, drop_cons b place 0 h)
+    here = rw (add-one, drop-cons b place 0 h)
 
     no_digit : ¬ IsDigit byte → NoDigit (drop place b)
     no_digit n = rw here n
 
     many : length (digits seen value) ≡ seen
-    many = omega (arith, r.begun, ap length r.bytes, length_append (digits seen value) (drop place b), length_drop at b, length_drop place b)
+    many = omega (arith, r.begun, ap length r.bytes, length-append (digits seen value) (drop place b), length-drop at b, length-drop place b)
 
     stop : IsDigit byte → ¬ GoesOn seen value byte → NumberIs b at (Bad place)
     stop d not = (

@@ -4,7 +4,7 @@ use mathlib.Core.Path.{◌≡◌, refl, sym}
 use mathlib.Core.List.{List, [], ◌∷◌}
 use borrow.Author.Rules.{rules}
 use denote.Enum.Declared.{tag_of}
-use lib.ListN.{take_append_drop}
+use lib.ListN.{take-append-drop}
 use types.Run.{OneOf, miss}
 use Rattle.kinds.specs.Refusal.{values_of}
 use Rattle.kinds.specs.declared.Refusal.{Refusal}
@@ -92,7 +92,7 @@ returns_4 c =
 returns_5 : tie.Need-returns-5
 returns_5 c =
     let start = c.before.before in
-    rw (others_carry_none start.args.refusal c.match.keys4) (becomes_written c.before.if1.false (sym (take_append_drop 1 start.args.said.now)))
+    rw (others_carry_none start.args.refusal c.match.keys4) (becomes_written c.before.if1.false (sym (take-append-drop 1 start.args.said.now)))
 
 pub name_values_spec : {M : Type 1} → statement M
 name_values_spec =

@@ -1,12 +1,12 @@
 -- `trial::hand_out` meets its contract. The invariant: each tick of the frame before the place has been handed out, by a blank call of its own.
 use Prim.Native.Nat.{ℕ, ◌+◌, ◌-◌, ◌*◌, ◌^◌, ◌≤◌, ◌<◌}
 use mathlib.Core.Path.{◌≡◌, refl, sym, ap, ap₂, ◌∙◌}
-use mathlib.Core.List.{List, [], ◌++◌, append_nil}
+use mathlib.Core.List.{List, [], ◌++◌, append-nil}
 use native.Mathlib.Decide.{dec_lt}
 use native.Mathlib.Omega.{arith}
 use borrow.Author.Count.{below_none}
 use borrow.Author.Rules.{rules}
-use lib.ListN.{length, get_or, take, drop, length_take, length_drop, drop_of_length_le}
+use lib.ListN.{length, get_or, take, drop, length-take, length-drop, drop_of_length-le}
 use lib.Pow.{pow_pos, high, low}
 use Rattle.kinds.specs.Edition.{edition1}
 use Rattle.kinds.specs.Frame.{ticks, tick_of, port_of}
@@ -56,13 +56,13 @@ module _ {n k ports at : ℕ} {s f₀ ws₀ ms₀ f ws ms : List ℕ} {st : Stat
     with r = take at f ++ (r ++ drop (at + ports - at) (drop at f))
 
     part_length : length part ≡ 2 ^ k
-    part_length = omega (arith, length_take (at + ports - at) (drop at f), length_drop at f, passing_fits p h, p.tick)
+    part_length = omega (arith, length-take (at + ports - at) (drop at f), length-drop at f, passing_fits p h, p.tick)
 
     tick_length : length tick ≡ 2 ^ k
     tick_length = ap length (tick_leaves p.run (passing_left p h)) ∙ in_order_length (2 ^ k) _
 
     tick_fills : over_front tick part ≡ tick
-    tick_fills = rw (drop_of_length_le part {i = length tick} (omega (arith, part_length, tick_length))) (append_nil tick)
+    tick_fills = rw (drop_of_length-le part {i = length tick} (omega (arith, part_length, tick_length))) (append-nil tick)
 
     tick_there : (q : ℕ) → at ≤ q → q < at + ports → get_or (with tick) q 0 ≡ word_left n k s q
     tick_there q from l =

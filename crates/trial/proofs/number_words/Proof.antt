@@ -5,8 +5,8 @@ use mathlib.Core.List.{List}
 use native.Mathlib.Omega.{arith}
 use borrow.Author.Count.{below_none, below_more}
 use borrow.Author.Rules.{rules}
-use lib.ListN.{length, get_or, set, length_set}
-use lib.Seq.{get_or_set_same, get_or_set_other}
+use lib.ListN.{length, get_or, set, length-set}
+use lib.Seq.{get_or-set_same, get_or-set_other}
 use Rattle.kinds.specs.Frame.{in_order}
 use Rattle.kinds.proofs.FrameLaws.{in_order_is}
 use Rattle.trial.proofs.number_words.Statement.{statement}
@@ -24,8 +24,8 @@ module _ {f₀ f : List ℕ} {i : ℕ} (numbering : Numbering f₀ f i) where
   more : i < length f → Numbering f₀ (set f i i) (i + 1)
   more h = record {
     few = numbering.few;
-    same = length_set f i i ∙ numbering.same;
-    each = below_more _ i (λ q l. get_or_set_other f i q i 0 (λ e. omega arith) ∙ numbering.each q l) (get_or_set_same f i i 0 h);
+    same = length-set f i i ∙ numbering.same;
+    each = below_more _ i (λ q l. get_or-set_other f i q i 0 (λ e. omega arith) ∙ numbering.each q l) (get_or-set_same f i i 0 h);
   }
 
   done : length f ≤ i → f ≡ in_order (length f₀) (λ q. q)

@@ -2,11 +2,11 @@
 use Prim.Native.Nat.{ℕ, ◌+◌, ◌-◌, ◌*◌, ◌^◌, ◌≤◌}
 use mathlib.Core.Path.{◌≡◌, sym, ap, ◌∙◌}
 use mathlib.Core.List.{List}
-use native.Mathlib.Nat.{sub_zero}
+use native.Mathlib.Nat.{sub-zero}
 use native.Mathlib.Omega.{arith}
 use borrow.Author.Rules.{rules}
-use lib.ListN.{length, take, drop, replicate, length_append, length_replicate, replicate-append-replicate}
-use lib.Pow.{pow_mono, pow_add}
+use lib.ListN.{length, take, drop, replicate, length-append, length-replicate, replicate-append-replicate}
+use lib.Pow.{pow_mono, pow-add}
 use lib.Seq.{take_at}
 use Rattle.kinds.proofs.FrameLaws.{in_order_length}
 use Rattle.kinds.proofs.PartLaws.{part_length, part_back}
@@ -17,7 +17,7 @@ use Rattle.trial.proofs.run_frame.Tie as tie
 zeros_part : (m l : ℕ) → m ≤ l → ◌≡◌ {A = List ℕ} (take (m - 0) (replicate l 0)) (replicate m 0)
 zeros_part m l h =
     let whole : m + (l - m) ≡ l = omega arith in
-    rw (sub_zero m) (ap (λ (x : ℕ). take m (replicate x 0)) (sym whole) ∙ ap (take m) (sym (replicate-append-replicate m (l - m) 0)) ∙ take_at (replicate m 0) _ m (length_replicate m 0))
+    rw (sub-zero m) (ap (λ (x : ℕ). take m (replicate x 0)) (sym whole) ∙ ap (take m) (sym (replicate-append-replicate m (l - m) 0)) ∙ take_at (replicate m 0) _ m (length-replicate m 0))
 
 module _ (c : tie.After-two-to) where
   abbrev start : tie.Start
@@ -45,7 +45,7 @@ module _ (c : tie.After-two-to) where
   ports_few = pow_mono {i = k} {j = 5} (omega (arith, run.sized.most))
 
   places : 2 * length frame ≡ 2 ^ (n + 1)
-  places = omega (arith, count, pow_add 2 n 1)
+  places = omega (arith, count, pow-add 2 n 1)
 
   places_few : 2 ^ (n + 1) ≤ 2048
   places_few = pow_mono {i = n + 1} {j = 11} (omega (arith, run.sized.frame.most))
@@ -130,7 +130,7 @@ part_words_start_2 : tie.Need-slice-bounds-words-start-2
 part_words_start_2 c = search rules
 
 part_words_end_2 : tie.Need-slice-bounds-words-end-2
-part_words_end_2 c = omega (arith, words_back c.before, length_append (words c.before) (drop (room c.before - 0) (zeros c.before)))
+part_words_end_2 c = omega (arith, words_back c.before, length-append (words c.before) (drop (room c.before - 0) (zeros c.before)))
 
 sub_hand_out_2 : tie.Need-overflow-sub-hand-out-2
 sub_hand_out_2 c = search rules
@@ -139,7 +139,7 @@ part_marks_start_2 : tie.Need-slice-bounds-marks-start-2
 part_marks_start_2 c = search rules
 
 part_marks_end_2 : tie.Need-slice-bounds-marks-end-2
-part_marks_end_2 c = let at = c.before.before in omega (arith, marks_back at, length_append (marks at) (drop (room at - 0) (zeros at)))
+part_marks_end_2 c = let at = c.before.before in omega (arith, marks_back at, length-append (marks at) (drop (room at - 0) (zeros at)))
 
 hand_out_requires : tie.Need-hand-out-requires
 hand_out_requires c κs =

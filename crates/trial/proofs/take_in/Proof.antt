@@ -3,7 +3,7 @@ use Prim.Native.Nat.{ℕ, ◌+◌, ◌-◌, ◌^◌, ◌<◌}
 use mathlib.Core.Path.{◌≡◌, refl, sym, ap, ◌∙◌}
 use mathlib.Core.List.{List}
 use native.Mathlib.Omega.{arith}
-use native.Mathlib.Nat.{zero_add}
+use native.Mathlib.Nat.{zero-add}
 use borrow.Author.Rules.{rules}
 use lib.ListN.{length, take, drop}
 use lib.Pow.{pow_pos}
@@ -45,7 +45,7 @@ more : {n k ports at : ℕ} {s f out₀ ws₀ ms₀ out ws ms out' ws' ms' : Lis
     → length out' ≡ length out → length ws' ≡ length ws → length ms' ≡ length ms → Taking n k s f out₀ ws₀ ms₀ out' ws' ms' ports st' (at + ports)
 more {n} {k} t h goes after o w m =
     let p = t.passing in
-    let comes = part_comes p.run t.words p.passed p.tick (passing_left p h) ∙ ap (call_at (trial_calls n k)) (sym (zero_add p.calls)) in
+    let comes = part_comes p.run t.words p.passed p.tick (passing_left p h) ∙ ap (call_at (trial_calls n k)) (sym (zero-add p.calls)) in
     record {
       passing = (passing_more p h (omega arith) refl t.room comes goes after).0;
       words = t.words;
@@ -112,7 +112,7 @@ same_length_3 : tie.Need-same-length-3 invariant_loop decreases_loop
 same_length_3 c = search rules
 
 returns : tie.Need-returns invariant_loop decreases_loop
-returns c = rw (zero_add (ticks _ _)) at (passing_done c.before.loop.invariant.passing (omega arith))
+returns c = rw (zero-add (ticks _ _)) at (passing_done c.before.loop.invariant.passing (omega arith))
 
 pub take_in_spec : {M : Type 1} → statement M
 take_in_spec =

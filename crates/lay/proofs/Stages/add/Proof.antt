@@ -4,7 +4,7 @@ use mathlib.Core.Path.{◌≡◌, refl, ap, ap₂, ◌∙◌}
 use mathlib.Core.List.{List, [], ◌∷◌}
 use native.Mathlib.Omega.{arith}
 use borrow.Author.Rules.{rules}
-use lib.ListN.{length, set, length_append}
+use lib.ListN.{length, set, length-append}
 use Rattle.kinds.specs.Edition.{edition1}
 use Rattle.bits.specs.Padded.{array_width}
 use Rattle.sheet.specs.Sheet.{Stage}
@@ -27,8 +27,8 @@ module _ {o : Stages} {d c : ℕ} where
           is = ap₂ (λ (ns : List ℕ) (m : ℕ). record { numbers = ns; count = m })
               (ap₂ (λ (ns : List ℕ) (m : ℕ). set (set ns (2 * m) d) (2 * m + 1) c) (ap (λ r. r.numbers) shows.is) count
               ∙ stage_more array_width ss stage (omega arith))
-              (omega (arith, count, length_append ss (stage ∷ [])));
-          few = omega (arith, length_append ss (stage ∷ []));
+              (omega (arith, count, length-append ss (stage ∷ [])));
+          few = omega (arith, length-append ss (stage ∷ []));
         };
     full = λ ss shows h. absurd (omega (arith, ap (λ r. r.count) shows.is));
   }

@@ -3,15 +3,15 @@ use Prim.Native.Nat.{ℕ, suc, ◌+◌, ◌-◌, ◌*◌, ◌^◌, ◌≤◌, �
 use mathlib.Core.Path.{◌≡◌, refl, sym, ap, ap₂, ◌∙◌}
 use mathlib.Core.List.{List, [], ◌∷◌}
 use native.Mathlib.Decide.{dec_lt}
-use native.Mathlib.Nat.{pow_suc}
+use native.Mathlib.Nat.{pow-suc}
 use native.Mathlib.Omega.{arith}
 use borrow.Author.Rules.{rules}
 use borrow.Author.Tests.{not-true, not-false}
-use lib.Arith.{lt_one}
+use lib.Arith.{lt-one}
 use lib.Bits.{bit_xor}
-use lib.ListN.{length, get_or, set, length_set}
-use lib.Pow.{pow_mono, pow_add, pow_pos}
-use lib.Seq.{get_or_set_same}
+use lib.ListN.{length, get_or, set, length-set}
+use lib.Pow.{pow_mono, pow-add, pow_pos}
+use lib.Seq.{get_or-set_same}
 use Rattle.kinds.specs.Reasons.{wrong_length}
 use Rattle.kinds.specs.declared.Answer.TheVariants.{Done, Refused}
 use Rattle.kinds.specs.declared.Refusal.TheVariants.{Length}
@@ -45,11 +45,11 @@ record Listing (o : OpenSide) (out₀ out : List ℕ) (filled j : ℕ) : Type 0 
 
 start : {o : OpenSide} (out : List ℕ) (v : ℕ) → length out < 2 ^ 64 → length out ≡ 2 ^ o.k → Listing o (set out 0 v) (set out 0 v) 1 0
 start out v fits whole = record {
-  fits = rw (length_set out 0 v) fits;
-  whole = length_set out 0 v ∙ whole;
+  fits = rw (length-set out 0 v) fits;
+  whole = length-set out 0 v ∙ whole;
   same = refl;
   power = refl;
-  each = λ c first p h. rw (lt_one h) first;
+  each = λ c first p h. rw (lt-one h) first;
 }
 
 module _ {o : OpenSide} {out₀ out : List ℕ} {filled j : ℕ} (i : Listing o out₀ out filled j) (h : filled < length out) where
@@ -60,14 +60,14 @@ module _ {o : OpenSide} {out₀ out : List ℕ} {filled j : ℕ} (i : Listing o 
   ]
 
   room : 2 * filled ≤ length out
-  room = omega (arith, i.whole, i.same, i.power, pow_suc 2 j, pow_mono {i = suc j} {j = o.k} bits_left)
+  room = omega (arith, i.whole, i.same, i.power, pow-suc 2 j, pow_mono {i = suc j} {j = o.k} bits_left)
 
   more : {v : ℕ} {next : List ℕ} → IsColumn o j v → Doubled filled v out next → Listing o out₀ next (2 * filled) (j + 1)
   more {v} {next} column doubled = record {
     fits = i.fits;
     whole = i.whole;
     same = doubled.same ∙ i.same;
-    power = omega (arith, i.power, pow_add 2 j 1);
+    power = omega (arith, i.power, pow-add 2 j 1);
     each = λ c first p l. elim (dec_lt p filled) [
       | yes low ↦ rw (doubled.low p low) (i.each c first p low)
       | no high ↦ upper c first p l high
@@ -87,9 +87,9 @@ module _ {o : OpenSide} {out₀ out : List ℕ} {filled j : ℕ} (i : Listing o 
 right : {o : OpenSide} {came out : List ℕ} {first filled j : ℕ} (c : ℕ) → Listing o (set came 0 first) out filled j → length out ≤ filled
     → IsCell o c 0 first → ListsCells o c came out Done
 right {o} {came} {out} {first} c i end cell n k S h =
-    let kept = length_set came 0 first in
+    let kept = length-set came 0 first in
     let all : length came ≡ 2 ^ k = sym kept ∙ i.whole ∙ ap (λ (x : ℕ). 2 ^ x) (shown_k h) in
-    let there : get_or (set came 0 first) 0 0 ≡ first = get_or_set_same came 0 first 0 (omega (arith, all, pow_pos k)) in
+    let there : get_or (set came 0 first) 0 0 ≡ first = get_or-set_same came 0 first 0 (omega (arith, all, pow_pos k)) in
     does refl (sym ((first_none (wrong_length ((length came, exactly (2 ^ k)) ∷ []) ∷ [])).1 (λ wrong. wrong (all, tt), tt)))
     (in_order_is (2 ^ k) (cell_at k S c) 0 out (i.same ∙ kept ∙ all) (λ p l. i.each c (rw there cell) p (omega (arith, all, kept, i.same)) n k S h))
 
@@ -160,7 +160,7 @@ loop_again c =
     more loop.loop.invariant c.before.before.before.before.before.loop-test.true doubled.before.before.column.ensures doubled.double.ensures
 
 same_length : tie.Need-same-length invariant_loop decreases_loop
-same_length c = c.before.loop.invariant.same ∙ length_set (begin c.before.before).args.out.now 0 c.before.before.cell-number.result
+same_length c = c.before.loop.invariant.same ∙ length-set (begin c.before.before).args.out.now 0 c.before.before.cell-number.result
 
 returns_2 : tie.Need-returns-2 invariant_loop decreases_loop
 returns_2 c = right (begin c.before.before).args.tick.0 c.before.loop.invariant c.loop-test.false (first c.before.before)

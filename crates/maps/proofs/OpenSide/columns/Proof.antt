@@ -5,7 +5,7 @@ use mathlib.Core.List.{List}
 use native.Mathlib.Decide.{dec_lt}
 use native.Mathlib.Omega.{arith}
 use borrow.Author.Rules.{rules}
-use lib.ListN.{length, get_or, set, replicate, get_or_eq_default}
+use lib.ListN.{length, get_or, set, replicate, get_or-eq_default}
 use Rattle.bits.proofs.ImageLaws.{columns_length, columns_at}
 use Rattle.sheet.specs.Sheet.{Side}
 use Rattle.bits.proofs.PaddedLaws.{padded_length, padded_at}
@@ -32,7 +32,7 @@ module _ {n k : ℕ} {o : OpenSide} {S : Side} (h : Shows n k o S) where
   shown : (j : ℕ) → cell_of k S (2 ^ j) ≡ get_or (padded C) j 0
   shown j = elim (dec_lt j n) [
     | yes b ↦ sym (padded_at array_width C j ∙ columns_at n (cell_of k S) j b)
-    | no b ↦ column_beyond h.used h.ports h.addresses j (omega arith) ∙ sym (padded_at array_width C j ∙ get_or_eq_default C 0 (omega (arith, count)))
+    | no b ↦ column_beyond h.used h.ports h.addresses j (omega arith) ∙ sym (padded_at array_width C j ∙ get_or-eq_default C 0 (omega (arith, count)))
   ]
 
 record Filling (o : OpenSide) (r : List ℕ) (j : ℕ) : Type 0 where

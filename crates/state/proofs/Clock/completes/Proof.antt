@@ -1,7 +1,7 @@
 -- `state::Clock::completes` meets its contract.
 use mathlib.Core.Path.{sym, ◌∙◌}
 use borrow.Author.Rules.{rules}
-use borrow.Author.Tests.{not-true, not-false, eqb_true, eq_eqb}
+use borrow.Author.Tests.{not-true, not-false, eqb-true, eq-eqb}
 use native.Mathlib.Omega.{arith}
 use Rattle.kinds.proofs.TruthLaws.{false≢true, says_no, denied}
 use Rattle.state.specs.Clocks.{PossibleClock}
@@ -26,8 +26,8 @@ add_a c = let at = c.before.before in omega (arith, (possible at).incoming, at.b
 
 returns_3 : tie.Need-returns-3
 returns_3 c = (
-  λ e. record { possible = possible c.before.before; words = not-false _ c.before.if2.false; last = eqb_true _ _ e },
-  λ last. eq_eqb _ _ last.last,
+  λ e. record { possible = possible c.before.before; words = not-false _ c.before.if2.false; last = eqb-true _ _ e },
+  λ last. eq-eqb _ _ last.last,
 )
 
 pub completes_spec : {M : Type 1} → statement M

@@ -4,7 +4,7 @@ use mathlib.Core.Path.{◌≡◌, sym, ap, ◌∙◌}
 use mathlib.Core.Bool.{Bool, true, false}
 use mathlib.Core.Logic.{◌≢◌}
 use borrow.Author.Rules.{rules}
-use borrow.Author.Tests.{eq_eqb, ne_eqb, not-true, not-false}
+use borrow.Author.Tests.{eq-eqb, ne_eqb, not-true, not-false}
 use native.Mathlib.Nat.{ne_of_lt}
 use native.Mathlib.Omega.{arith}
 use Rattle.kinds.specs.Answers.{if_holds}
@@ -20,7 +20,7 @@ blank : (T : ℕ) (x : Clock) (came : Bool) → x.a < T → came ≡ false → x
 blank T x came h e = rw (e, ne_eqb x.a T (ne_of_lt h))
 
 full : (T : ℕ) (x : Clock) (came : Bool) → came ≡ true → x.a + 1 ≡ T → ◌≡◌ {A = Clock} (record { a = 0; r = 0 }) (started_anew T (counted x came))
-full T x came e t = rw (e, eq_eqb (x.a + 1) T t)
+full T x came e t = rw (e, eq-eqb (x.a + 1) T t)
 
 goes_on : (T : ℕ) (x : Clock) (came : Bool) → came ≡ true → x.a + 1 ≢ T → ◌≡◌ {A = Clock} (record { a = x.a + 1; r = x.r }) (started_anew T (counted x came))
 goes_on T x came e t = rw (e, ne_eqb (x.a + 1) T t)

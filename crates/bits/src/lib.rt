@@ -1,4 +1,6 @@
 // Numbers as rows of bits. Bit 0 is the lowest.
+#![tactic(auto)]
+
 ghost use Rattle.std.specs.Prelude.{◌≡◌, ◌+◌, ◌*◌, ◌%◌, ◌^◌};
 ghost use Rattle.kinds.specs.Answers.{Says};
 ghost use Rattle.bits.specs.Image.{image as image_of, AllBelow};

@@ -1,4 +1,6 @@
 // The board's tools under C names. Each is thin: it calls the tool, and answers with 01's number, and in `said` with what a refusal names. include/board.h says the same for C.
+#![tactic(auto)]
+
 ghost use Rattle.std.specs.Prelude.{◌≡◌, length};
 ghost use Rattle.kinds.specs.Edition.{edition1};
 ghost use Rattle.order.specs.Tools.{Inverts};

@@ -1,4 +1,6 @@
 // One call of a run over any two opened sides: the words that came go in by the one, and the next tick of the frame before, if one is left, goes out by the other.
+#![tactic(auto)]
+
 ghost use Rattle.std.specs.Prelude.{◌≡◌, cond, ◌^◌, ◌≤◌, length};
 ghost use Rattle.kinds.specs.Edition.{edition1};
 ghost use Rattle.call.specs.Tool.{Calls};

@@ -1,4 +1,6 @@
 // The order card (01, 'The order card').
+#![tactic(auto)]
+
 ghost use Rattle.card.specs.Card.{Reads};
 ghost use Rattle.card.specs.Inside.{Unread, Further, ReadsColumns};
 

@@ -1,4 +1,6 @@
 // When a call must not go on: 11 to 14, for any cells that it writes and reads.
+#![tactic(auto)]
+
 ghost use Rattle.std.specs.Prelude.{◌≡◌, cond, ◌^◌, ◌≤◌, length};
 ghost use Rattle.std.proofs.Math.Decide.{dec_le};
 ghost use Rattle.kinds.specs.Answers.{Says, if_holds};

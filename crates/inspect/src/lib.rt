@@ -1,4 +1,6 @@
 // The inspector: from an order and a sheet to a verdict (01, 'When a tool says no').
+#![tactic(auto)]
+
 ghost use Rattle.kinds.specs.Edition.{edition1};
 ghost use Rattle.inspect.specs.Tool.{Inspects, OpensPassed};
 ghost use Rattle.inspect.specs.Inside.{Comparable, Agrees, Judgeable, Judges};

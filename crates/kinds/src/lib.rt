@@ -1,4 +1,6 @@
 // The board's vocabulary: four kinds of number, the sizes, and the ways a tool says no.
+#![tactic(auto)]
+
 ghost use Rattle.std.specs.Prelude.{◌≡◌};
 ghost use Rattle.kinds.specs.Answers.{Says};
 ghost use Rattle.kinds.specs.Edition.{edition1, SizedN, Sized};

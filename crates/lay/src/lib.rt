@@ -1,4 +1,6 @@
 // Stages, and sides as they are laid out on a sheet.
+#![tactic(auto)]
+
 ghost use Rattle.std.specs.Prelude.{◌≡◌, [], min, length, take};
 ghost use Rattle.kinds.specs.Edition.{edition1};
 ghost use Rattle.bits.specs.Padded.{padded_to};

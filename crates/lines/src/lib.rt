@@ -1,4 +1,6 @@
 // Text that is written into a buffer: bytes, numbers in decimal, and lines of them. Where there is no room for all of it, nothing is written, and the answer is the place that was given.
+#![tactic(auto)]
+
 ghost use Rattle.std.specs.Prelude.{◌≡◌, ◌+◌, ◌≤◌, length};
 ghost use Rattle.kinds.specs.Answers.{Says};
 ghost use Rattle.text.specs.Decimal.{decimal};

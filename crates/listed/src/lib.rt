@@ -1,4 +1,6 @@
 // The text that is listed for an order: it is tried out, and what comes of it is written (01, 'The order card').
+#![tactic(auto)]
+
 ghost use Rattle.std.specs.Prelude.{◌≡◌, ◌≤◌, length};
 ghost use Rattle.bits.specs.Padded.{padded_to};
 ghost use Rattle.lines.specs.Line.{line};

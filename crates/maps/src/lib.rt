@@ -1,4 +1,6 @@
 // A side of a sheet that was opened: checked once, and then asked for the address, the bank and the cell of each word.
+#![tactic(auto)]
+
 ghost use Rattle.std.specs.Prelude.{◌≡◌, ◌+◌, ◌*◌, ◌%◌, ◌^◌, ◌≤◌, length, get_or};
 ghost use Rattle.kinds.specs.Edition.{edition1, side_places};
 ghost use Rattle.bits.specs.Padded.{array_width, padded as padded_of};

@@ -1,4 +1,6 @@
 // The memory of a run, and what a call does to it, for any cells that it writes and reads.
+#![tactic(auto)]
+
 ghost use Rattle.std.specs.Prelude.{◌≡◌, length, get_or, set};
 ghost use Rattle.std.proofs.Math.Decide.{dec_le, ℕ_discrete};
 ghost use Rattle.kinds.specs.Answers.{Says, over_front, if_holds};

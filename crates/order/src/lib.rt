@@ -1,4 +1,6 @@
 // Orders: the check that every tool makes of one, and the inverse.
+#![tactic(auto)]
+
 ghost use Rattle.std.specs.Prelude.{◌≤◌, ◌≡◌};
 ghost use Rattle.kinds.specs.Answers.{Checks};
 ghost use Rattle.kinds.specs.Edition.{edition1, SizedN, Sized};

@@ -1,4 +1,6 @@
 // The planner: from an order to its sheet (01, 'The planner's choices').
+#![tactic(auto)]
+
 ghost use Rattle.std.specs.Prelude.{◌≡◌, ◌≤◌, length, take};
 ghost use Rattle.kinds.specs.Edition.{edition1, Sized};
 ghost use Rattle.kinds.specs.Frame.{tick_of};

@@ -1,4 +1,6 @@
 // The price of a sheet (01, 'Price', with R-4).
+#![tactic(auto)]
+
 ghost use Rattle.std.specs.Prelude.{◌≡◌};
 ghost use Rattle.kinds.specs.Edition.{edition1};
 ghost use Rattle.sheet.specs.Sheet.{stages_in};

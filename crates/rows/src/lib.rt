@@ -1,4 +1,6 @@
 // Rows of a list of columns, and what a scan kept of them, or of any numbers.
+#![tactic(auto)]
+
 ghost use Rattle.std.specs.Prelude.{◌≡◌, ◌/◌, ◌^◌, min, take};
 ghost use Rattle.bits.specs.Image.{columns as columns_of};
 ghost use Rattle.bits.specs.Padded.{array_width, padded};

@@ -1,4 +1,6 @@
 // The run: one tick of any sheet.
+#![tactic(auto)]
+
 ghost use Rattle.kinds.specs.Edition.{edition1};
 ghost use Rattle.run.specs.Tool.{ChecksRun, Runs};
 

@@ -1,4 +1,6 @@
 // Sheets: the places of one, and the check of its layout.
+#![tactic(auto)]
+
 ghost use Rattle.kinds.specs.Answers.{Says, Checks};
 ghost use Rattle.kinds.specs.Edition.{edition1};
 ghost use Rattle.sheet.specs.Sheet.{stages_in};

@@ -1,4 +1,6 @@
 // The scan: numbers come one by one, and one that is no sum of those kept before it is kept.
+#![tactic(auto)]
+
 ghost use Rattle.std.specs.Prelude.{min, ◌≡◌, []};
 ghost use Rattle.kinds.specs.Answers.{Says};
 ghost use Rattle.span.specs.Sums.{Independent};

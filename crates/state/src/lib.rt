@@ -1,4 +1,6 @@
 // The state of a run: its clock, and the half that words are written to.
+#![tactic(auto)]
+
 ghost use Rattle.std.specs.Prelude.{◌≡◌};
 ghost use Rattle.kinds.specs.Answers.{Says, if_holds};
 ghost use Rattle.state.specs.Clocks.{PossibleClock, read_on, Completes, next_clock};

@@ -1,4 +1,6 @@
 // Stages, and the numbers of words and cells: which tick and port a place has, which number a word or a cell has, and which bank the stages leave.
+#![tactic(auto)]
+
 ghost use Rattle.std.specs.Prelude.{◌≡◌, ◌+◌, ◌*◌, ◌%◌, ◌^◌};
 ghost use Rattle.kinds.specs.Frame.{tick_of, port_of, word_at};
 ghost use Rattle.sheet.specs.Sheet.{stages_from};

@@ -1,4 +1,6 @@
 // Decimal numbers in bytes, and those of an order card, read one after the other.
+#![tactic(auto)]
+
 ghost use Rattle.std.specs.Prelude.{◌≡◌, drop};
 ghost use Rattle.text.specs.Number.{NumberIs};
 ghost use Rattle.text.specs.Numbers.{ending as ending_of, NextIs};

@@ -1,4 +1,6 @@
 // What C is told of an answer: its number, and in three places that are lent for it the values of a refusal; and three numbers in three places.
+#![tactic(auto)]
+
 ghost use Rattle.std.specs.Prelude.{◌≡◌, cond, [], ◌∷◌};
 ghost use Rattle.std.proofs.Math.Option.{some};
 ghost use Rattle.kinds.specs.Refusal.{said as said_by};

@@ -1,4 +1,6 @@
 // An order tried out: planned, and words 0 to 2^n - 1 run through its sheet (01, 'The order card').
+#![tactic(auto)]
+
 ghost use Rattle.std.specs.Prelude.{◌≡◌, [], ◌∷◌, ◌^◌, ◌≤◌, length};
 ghost use Rattle.kinds.specs.Answers.{Says};
 ghost use Rattle.kinds.specs.Edition.{edition1, sheet_places};

@@ -98,6 +98,7 @@ given_first (r ∷ rs) x e = go (given_first rs x) r.decided
 first_given : (t : List Reason) (x : Refusal) → FirstThatApplies t x → first_of t ≡ some x
 first_given (r ∷ rs) x (inl f) = first_take r rs f.0 ∙ ap some f.1
 first_given (r ∷ rs) x (inr f) = first_skip r rs f.0 ∙ first_given rs x f.1
+first_given [] x x3 = elim x3 [ ]
 
 pub first_exact : (t : List Reason) (x : Refusal) → first_of t ≡ some x ↔ FirstThatApplies t x
 first_exact t x = (given_first t x, first_given t x)
@@ -105,6 +106,7 @@ first_exact t x = (given_first t x, first_given t x)
 given_has : (Q : Refusal → Type 0) (t : List Reason) {x : Refusal} → EachReason (λ r. Q r.refusal) t → FirstThatApplies t x → Q x
 given_has Q (r ∷ rs) each (inl f) = rw f.1 at each.0
 given_has Q (r ∷ rs) each (inr f) = given_has Q rs each.1 f.1
+given_has Q [] each x4 = elim x4 [ ]
 
 pub first_has : (Q : Refusal → Type 0) (t : List Reason) {x : Refusal} → EachReason (λ r. Q r.refusal) t → first_of t ≡ some x → Q x
 first_has Q t {x} each e = given_has Q t each (given_first t x e)
@@ -123,11 +125,13 @@ first_lowest (r ∷ rs) x up (inl f) =
 first_lowest (r ∷ rs) x up (inr f) =
     let rest = first_lowest rs x up.1 f.1 in
     record { applies = inr rest.applies; nothing_lower = (λ a. absurd (f.0 a), rest.nothing_lower) }
+first_lowest [] x up x4 = elim x4 [ ]
 
 any_above : (n : ℕ) (x : Refusal) (t : List Reason) → AnyReason (λ s. s.applies × (s.refusal ≡ x)) t
     → EachReason (λ s. n < number_of s.refusal) t → n < number_of x
 any_above n x (s ∷ t) (inl a) h = rw (ap number_of a.1) at h.0
 any_above n x (s ∷ t) (inr a) h = any_above n x t a h.1
+any_above n x [] x3 h = elim x3 [ ]
 
 lowest_is_first : (t : List Reason) (x : Refusal) → Ascending t → AnyReason (λ r. r.applies × (r.refusal ≡ x)) t
     → EachReason (λ r. r.applies → number_of x ≤ number_of r.refusal) t → FirstThatApplies t x
@@ -136,6 +140,7 @@ lowest_is_first (r ∷ rs) x up (inr a) low = inr (
   λ first. omega (arith, low.0 first, any_above (number_of r.refusal) x rs a up.0),
   lowest_is_first rs x up.1 a low.1,
 )
+lowest_is_first [] x up x5 low = elim x5 [ ]
 
 pub lowest_law : (t : List Reason) (x : Refusal) → Ascending t → first_of t ≡ some x ↔ LowestThatApplies t x
 lowest_law t x up = (

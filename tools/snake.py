@@ -155,7 +155,8 @@ def turned(path, text, names):
         return "".join(in_comment(l, names) if l.lstrip().startswith("--") else rename(l, names) for l in text.splitlines(keepends=True))
     if path.endswith(".rt"):
         camel = {a: b for a, b in names.items() if "-" not in a}
-        return rename(text, camel)
+        clause = re.compile(r"\s*(?:requires|ensures|ghost)\b")
+        return "".join(rename(l, names if clause.match(l) else camel) for l in text.splitlines(keepends=True))
     if path.endswith(".edit"):
         out, kind = [], ""
         for line in text.splitlines(keepends=True):

@@ -11,7 +11,7 @@ use maps::OpenSide;
 use state::State;
 
 // Done: the new state, and whether a tick was handed out.
-#[derive(Drop)]
+#[derive(Clone, Copy)]
 pub enum RunAnswer {
     Done(State, bool),
     Refused(Refusal),

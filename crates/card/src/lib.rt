@@ -13,7 +13,7 @@ pub const LONGEST: usize = 128;
 pub const MOST_COLUMNS: usize = LONGEST / 2 - 2;
 
 // What a card says: n, k, and the first `count` of the columns. Where it is refused, nothing.
-#[derive(Drop)]
+#[derive(Clone, Copy)]
 pub struct Reading {
     pub answer: Answer,
     pub n: u32,
@@ -22,7 +22,7 @@ pub struct Reading {
     pub count: usize,
 }
 
-#[derive(Drop)]
+#[derive(Clone, Copy)]
 struct Columns {
     readable: bool,
     numbers: [u16; MOST_COLUMNS],

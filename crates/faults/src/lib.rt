@@ -60,7 +60,7 @@ fn cells_freed(after: bool, reads: usize) -> usize
 }
 
 // The first two ports whose cells are of one bank.
-#[derive(Drop)]
+#[derive(Clone, Copy)]
 pub enum Pair {
     Nowhere,
     Between(Port, Port),

@@ -7,20 +7,20 @@ ghost use Rattle.kinds.specs.Edition.{edition1, SizedN, Sized};
 ghost use Rattle.kinds.specs.Refusal.{number_of};
 
 // "A cycle number may never stand where a port number belongs" (01): the compiler refuses one for another.
-#[derive(Drop)]
+#[derive(Clone, Copy)]
 pub struct Tick(pub u32);
 
-#[derive(Drop)]
+#[derive(Clone, Copy)]
 pub struct Port(pub u32);
 
-#[derive(Drop)]
+#[derive(Clone, Copy)]
 pub struct Bank(pub u32);
 
-#[derive(Drop)]
+#[derive(Clone, Copy)]
 pub struct Addr(pub u32);
 
 // A case for each number of 01's table. 4 names the first column that is a sum of earlier ones, and the mask that says of which (02, R-8); 11 and 13 name the first two ports that want one bank.
-#[derive(Drop)]
+#[derive(Clone, Copy)]
 pub enum Refusal {
     Sizes,
     Length,
@@ -40,7 +40,7 @@ pub enum Refusal {
 }
 
 // What a tool answers whose results stand in the buffers it was lent.
-#[derive(Drop)]
+#[derive(Clone, Copy)]
 pub enum Answer {
     Done,
     Refused(Refusal),

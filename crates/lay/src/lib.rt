@@ -10,7 +10,7 @@ ghost use Rattle.lay.specs.Staged.{pairs, staged, Adds, AreNumbers, Counts, Lays
 const WIDTH: usize = 2 * sheet::MOST_STAGES;
 
 // Stages as they stand on a sheet, and zeros after them; `count` counts the stages.
-#[derive(Drop)]
+#[derive(Clone, Copy)]
 pub struct Stages {
     numbers: [u16; WIDTH],
     count: usize,
@@ -60,7 +60,7 @@ impl Stages {
 
 // A direction with each control, as long as there are both and a side may have the stage.
 pub fn pair_up(directions: &[u16], controls: &[u16]) -> Stages
-    ensures { result ≡ staged (take edition1.most-stages (pairs directions.now controls.now)) }
+    ensures { result ≡ staged (take edition1.most_stages (pairs directions.now controls.now)) }
 {
     let mut numbers = [0; WIDTH];
     let both = at_most(directions.len(), controls.len());

@@ -15,7 +15,7 @@ const WIDTH: usize = 16;
 const STAGES: usize = WIDTH / 2;
 
 // A side with what it uses in range, and zeros after that: a column or a direction of 0 changes nothing, so a loop may go through every place.
-#[derive(Drop)]
+#[derive(Clone, Copy)]
 pub struct OpenSide {
     k: u32,
     addresses: [u16; WIDTH],
@@ -23,7 +23,7 @@ pub struct OpenSide {
     stages: [u16; WIDTH],
 }
 
-#[derive(Drop)]
+#[derive(Clone, Copy)]
 pub struct Opened {
     pub answer: Answer,
     pub write: OpenSide,

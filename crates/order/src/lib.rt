@@ -32,7 +32,7 @@ pub fn check_with_k(n: u32, k: u32, columns: &[u16], fits: bool) -> Answer
     checked.answer
 }
 
-#[derive(Drop)]
+#[derive(Clone, Copy)]
 struct Checked {
     answer: Answer,
     scan: Scan,

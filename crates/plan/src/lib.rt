@@ -116,7 +116,7 @@ fn lay_write_side(n: u32, k: u32, columns: &[u16], read: Stages, side: &mut [u16
     lay::lay_out(&addresses[0..word_bits], &banks[0..port_bits], write, side);
 }
 
-#[derive(Drop)]
+#[derive(Clone, Copy)]
 struct Cell {
     address: Addr,
     bank: Bank,
@@ -138,7 +138,7 @@ fn read_cell(place: u32, k: u32, stages: &[u16]) -> Cell
 }
 
 // The cells of some places, each part by itself, and zeros after them.
-#[derive(Drop)]
+#[derive(Clone, Copy)]
 struct Cells {
     addresses: [u16; WIDTH],
     banks: [u16; WIDTH],
@@ -164,7 +164,7 @@ fn cells_of(places: &[u16], k: u32, stages: &[u16]) -> Cells
 // "A stage's direction is a kept column, and bit j of its control says whether that column is in the sum for tick bit j" (01).
 fn kept_stages(columns: &[u16]) -> Stages
     requires { length columns.now ≤ array_width }
-    ensures { result ≡ staged (take edition1.most-stages (kept_stages_of columns.now)) }
+    ensures { result ≡ staged (take edition1.most_stages (kept_stages_of columns.now)) }
 {
     let all = rows::masks_of(columns);
     let masks = &all[0..columns.len()];

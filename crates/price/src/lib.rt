@@ -10,14 +10,14 @@ ghost use Rattle.price.specs.Inside.{Controlled};
 use kinds::{Answer, Refusal};
 
 // The three sums of a price; the gates are the xor gates of the controls.
-#[derive(Drop)]
+#[derive(Clone, Copy)]
 pub struct Sums {
     pub switches: u32,
     pub multiplexers: u32,
     pub gates: u32,
 }
 
-#[derive(Drop)]
+#[derive(Clone, Copy)]
 pub enum Priced {
     Costs(Sums),
     Refused(Refusal),

@@ -63,7 +63,7 @@ pub fn was_kept(masks: &[u16], i: usize) -> bool
 }
 
 // A number that is a sum of kept ones: where it stands, and its mask.
-#[derive(Drop)]
+#[derive(Clone, Copy)]
 pub struct Summed {
     pub at: u32,
     pub mask: u32,
@@ -87,7 +87,7 @@ pub fn first_sum(masks: &[u16]) -> Summed
 }
 
 // Row numbers i, each as 2^i, and zeros after them.
-#[derive(Drop)]
+#[derive(Clone, Copy)]
 pub struct Listed {
     pub units: [u16; WIDTH],
     pub count: usize,

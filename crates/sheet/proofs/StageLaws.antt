@@ -44,7 +44,7 @@ module _ (Q : Stage → Type 0) where
   each_in_order zero f = (λ e s h. absurd (omega arith), λ each. tt)
   each_in_order (suc m) f =
       let rest = each_in_order m (λ i. f (suc i)) in (
-        λ (first, e) s. elim s [ zero ↦ λ h. first | suc i ↦ λ h. rest.0 e i (omega arith) ],
+        λ (first, e) s. elim s as (λ s. s < suc m → Q (f s)) [ zero ↦ λ h. first | suc i ↦ λ h. rest.0 e i (omega arith) ],
         λ each. (each 0 (omega arith), rest.1 (λ s h. each (suc s) (omega arith))),
       )
 

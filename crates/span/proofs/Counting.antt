@@ -58,7 +58,7 @@ pigeonhole {f} {a = suc a} into injective =
     let last : a < suc a = omega arith in
     let missed : (i : ℕ) → i < a → f i ≢ f a = λ i h e. ne_of_lt h (injective i a (le_step h) last e) in
     let g = redirected (λ i h. into i (le_step h)) (λ i j h k. injective i j (le_step h) (le_step k)) (into a last) missed in
-    omega (arith, pigeonhole g.1 g.2, into a last)
+    omega (arith, pigeonhole {a = a} g.1 g.2, into a last)
 
 pub injective_onto : {f : ℕ → ℕ} {N : ℕ} → Into f N N → Injective f N → Onto f N N
 injective_onto {f} {N} into injective y h = elim (some_below (λ i. ℕ_discrete (f i) y) N) [

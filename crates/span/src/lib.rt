@@ -9,7 +9,7 @@ ghost use Rattle.span.specs.Tools.{most_scanned, Asks, Scans};
 
 // What a scan has kept, in echelon form. An entry is a row in its upper 16 bits, and in its lower 16 the mask that says which
 // of the scanned numbers the row is the sum of. The row with z leading zeros stands at z; 0 is no entry.
-#[derive(Drop)]
+#[derive(Clone, Copy)]
 pub struct Scan {
     entries: [u32; 16],
 }
@@ -35,7 +35,7 @@ impl Scan {
     }
 }
 
-#[derive(Drop)]
+#[derive(Clone, Copy)]
 pub struct Scanned {
     pub scan: Scan,
     pub masks: [u16; 16],

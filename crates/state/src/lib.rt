@@ -8,14 +8,14 @@ ghost use Rattle.state.specs.Decisions.{possible_clock?, possible?};
 ghost use Rattle.state.specs.States.{Possible, next as next_state};
 
 // What every run counts: a, the ticks of the incoming frame so far, and r, the next tick to read, 2^t when idle.
-#[derive(Drop)]
+#[derive(Clone, Copy)]
 pub struct Clock {
     pub a: u32,
     pub r: u32,
 }
 
 // "The state has a (ticks of the incoming frame so far), half h (0 or 1), and r (next tick to read, 2^t when idle)" (01).
-#[derive(Drop)]
+#[derive(Clone, Copy)]
 pub struct State {
     pub a: u32,
     pub h: u32,

@@ -9,7 +9,7 @@ ghost use Rattle.switches.specs.Stages.{bank_after};
 use kinds::{Addr, Bank, Port, Tick};
 
 // When and where a word comes or leaves.
-#[derive(Drop)]
+#[derive(Clone, Copy)]
 pub struct Slot {
     pub tick: Tick,
     pub port: Port,

@@ -53,7 +53,7 @@ row_unique {ns = []} {ms} r s = sym ((row_nil ms).0 (sym s.bytes ∙ r.bytes ∙
 row_unique {ns = x ∷ xs} r s =
     let (first, others) = row_next r in
     let (ys, rest, e) = row_rest first s in
-    ap (λ (zs : List ℕ). x ∷ zs) (row_unique others rest) ∙ sym e
+    ap (λ (zs : List ℕ). x ∷ zs) (row_unique {ns = xs} others rest) ∙ sym e
 
 further : {b rest : List ℕ} {v : ℕ} → Begins b v rest → Dec ((xs : List ℕ) × IsRow rest xs) → Dec ((ns : List ℕ) × IsRow b ns)
 further {v = v} g (yes (xs, r)) = yes (v ∷ xs, row_step g r)

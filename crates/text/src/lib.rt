@@ -8,14 +8,14 @@ ghost use Rattle.text.specs.Numbers.{ending as ending_of, NextIs};
 use kinds::Refusal;
 
 // A number with the place after its digits, or the first byte from which no number could go on.
-#[derive(Drop)]
+#[derive(Clone, Copy)]
 pub enum Numeral {
     Value(u16, usize),
     Bad(usize),
 }
 
 // "The next thing on the card is either a number or a refusal" (01): a number comes with the place after the byte that ends it.
-#[derive(Drop)]
+#[derive(Clone, Copy)]
 pub enum Thing {
     Number(u16, usize),
     Refused(Refusal),

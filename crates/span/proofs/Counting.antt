@@ -52,9 +52,9 @@ redirected {f} {b} {y} into injective h missed = (
     top? : (i : ℕ) → Dec (f i ≡ b - 1)
     top? i = ℕ_discrete (f i) (b - 1)
 
-pub pigeonhole : {f : ℕ → ℕ} {a b : ℕ} → Into f a b → Injective f a → a ≤ b
+pub pigeonhole : {a : ℕ} {f : ℕ → ℕ} {b : ℕ} → Into f a b → Injective f a → a ≤ b
 pigeonhole {a = zero} into injective = zero-le
-pigeonhole {f} {a = suc a} into injective =
+pigeonhole {a = suc a} {f} into injective =
     let last : a < suc a = omega arith in
     let missed : (i : ℕ) → i < a → f i ≢ f a = λ i h e. ne_of_lt h (injective i a (le_step h) last e) in
     let g = redirected (λ i h. into i (le_step h)) (λ i j h k. injective i j (le_step h) (le_step k)) (into a last) missed in

@@ -48,7 +48,7 @@ row_rest {ns = x ∷ xs} g r =
     let (number, after) = begins_unique first g in
     (xs, rw after at others, ap (λ (v : ℕ). v ∷ xs) number)
 
-pub row_unique : {b ns ms : List ℕ} → IsRow b ns → IsRow b ms → ns ≡ ms
+pub row_unique : {ns b ms : List ℕ} → IsRow b ns → IsRow b ms → ns ≡ ms
 row_unique {ns = []} {ms} r s = sym ((row_nil ms).0 (sym s.bytes ∙ r.bytes ∙ sym row_none.bytes))
 row_unique {ns = x ∷ xs} r s =
     let (first, others) = row_next r in

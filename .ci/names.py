@@ -31,9 +31,9 @@ class Crate:
         methods = {f.split("::")[-1] for f in self.functions}
         told = self.edits | self.functions | methods | self.types | self.constants | self.cases
         self.names = self.stated | told
-        # A promise rests on what is defined, on laws, whose names have a hyphen, and on cases that are computed; on nothing else that proofs define.
+        # A promise rests on what is defined, on laws, which nothing unfolds, and on cases that are computed; on nothing else that proofs define.
         meant = {d.name for a in specs for d in a.definitions}
-        shown = {d.name for a in proofs for d in a.definitions if "-" in d.name or a.file in ("Cases", "Marked")}
+        shown = {d.name for a in proofs for d in a.definitions if d.is_law or a.file in ("Cases", "Marked")}
         self.promised = meant | shown | told
 
 

@@ -4,7 +4,6 @@ import os
 import re
 from dataclasses import dataclass, field
 
-LIBRARY = ("Prim", "mathlib", "lib", "native", "borrow", "mir", "types")
 HEAD = re.compile(r"^(?:abbrev |unfoldable )?pub (?:record |data )?(\S+) (?:[:({]|$)|^(?:abbrev|unfoldable) (\S+) :")
 SPACE = "(){}[],;|"
 
@@ -52,6 +51,10 @@ class Definition:
         return self.file == "src"
 
     @property
+    def is_law(self):
+        return not re.match(r"(abbrev|unfoldable|pub record|pub data|record|data) ", self.lines[0])
+
+    @property
     def is_decision(self):
         return self.name.endswith("?") or (self.crate, self.file) == ("kinds", "Decided")
 
@@ -59,7 +62,7 @@ class Definition:
 def crates():
     """The crates, lowest floor first, as crates.txt has them."""
     with open("crates.txt") as f:
-        return [line.split(":")[0] for line in f if ":" in line and not line.startswith("#")]
+        return [line.split(":")[0].split()[0] for line in f if ":" in line and not line.startswith("#")]
 
 
 def counted(line):
@@ -139,13 +142,13 @@ class Rattle:
         while i < len(self.text):
             line = self.text[i]
             ghost = re.match(r"^ghost use (\S+?)\.\{(.*)\};$", line)
-            code = re.match(r"^use (\w+)::(\w+);$", line)
+            code = re.match(r"^use (\w+)::\{?([\w, ]+)\}?;$", line)
             if ghost:
                 for part in ghost.group(2).split(", "):
                     whole, _, local = part.partition(" as ")
                     self.uses[(local or whole)] = (ghost.group(1), whole)
             elif code:
-                self.code_uses[code.group(2)] = code.group(1)
+                self.code_uses.update({name: code.group(1) for name in code.group(2).split(", ")})
             declared = re.match(r"^(?:pub )?(struct|enum) (\w+)", line)
             if declared:
                 end = i
@@ -169,9 +172,9 @@ class Rattle:
             c = re.match(r"^(?:pub )?const (\w+)", line)
             if c:
                 self.constants.append(c.group(1))
-            if re.match(r"^\s*ensures \{", line):
+            if re.match(r"^\s*ensures (\w+ )?\{", line):
                 text = line
-                while "⌝" not in text:
+                while text.count("{") > text.count("}"):
                     i += 1
                     text += "\n" + self.text[i]
                 if public:
@@ -205,11 +208,10 @@ class Source:
 
     def found(self, path, name):
         """The definition that a `use` of name from path brings, or the name of a library's, or None."""
-        first = path.split(".")[0]
-        if not first.startswith("Rattle·"):
+        first, *parts = path.split(".")
+        if first != "Rattle" or parts[0] not in self.floor:
             return "library"
-        crate = first.split("·")[1]
-        parts = path.split(".")[1:]
+        crate, *parts = parts
         if parts[:1] != ["specs"]:
             return None
         if parts[1] == "declared":
@@ -263,7 +265,7 @@ class Source:
             if name in local:
                 out.add(local[name].key)
                 continue
-            use = uses.get(name) or uses.get(f"_{name}_")
+            use = uses.get(name) or uses.get(f"◌{name}◌")
             if use:
                 e = self.found(*use)
                 if e == "library":
@@ -278,7 +280,7 @@ class Source:
         """Whether the name is a case of an enum or of a data type, so that a clause does not bind it."""
         if name in local:
             return name in local[name].members
-        return name in uses and ".the-variants" in uses[name][0] or name in ("none", "some", "true", "false", "zero", "suc", "[]", "∷")
+        return name in uses and ".TheVariants" in uses[name][0] or name in ("none", "some", "true", "false", "zero", "suc", "[]", "∷")
 
     @staticmethod
     def bound(lines, own, d):

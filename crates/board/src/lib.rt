@@ -1,4 +1,4 @@
-// The board's tools under C names. Each is thin: it calls the tool, and answers with 01's number, and in `said` with what a refusal names. include/board.h says the same for C.
+// The board's tools under C names, which board_c exports. Each is thin: it calls the tool, and answers with 01's number, and in `said` with what a refusal names. include/board.h says the same for C.
 #![tactic(auto)]
 
 ghost use Rattle.std.specs.Prelude.{◌≡◌, length};
@@ -14,8 +14,7 @@ use call::RunAnswer;
 use price::Priced;
 use state::State;
 
-#[unsafe(no_mangle)]
-pub extern "C" fn board_plan(
+pub fn board_plan(
     n: u32,
     k: u32,
     columns: &[u16],
@@ -33,8 +32,7 @@ pub extern "C" fn board_plan(
     told::tell(answer, said)
 }
 
-#[unsafe(no_mangle)]
-pub extern "C" fn board_inspect(
+pub fn board_inspect(
     n: u32,
     k: u32,
     columns: &[u16],
@@ -52,8 +50,7 @@ pub extern "C" fn board_inspect(
     told::tell(answer, said)
 }
 
-#[unsafe(no_mangle)]
-pub extern "C" fn board_move(
+pub fn board_move(
     n: u32,
     columns: &[u16],
     frame: &[u32],
@@ -71,8 +68,7 @@ pub extern "C" fn board_move(
     told::tell(answer, said)
 }
 
-#[unsafe(no_mangle)]
-pub extern "C" fn board_inverse(n: u32, columns: &[u16], out: &mut [u16], said: &mut [u32]) -> u32
+pub fn board_inverse(n: u32, columns: &[u16], out: &mut [u16], said: &mut [u32]) -> u32
     ensures { AnswersAs (outside_n edition1 n) (Inverts edition1 n columns.now out.old out.new)
         (out.new ≡ out.old) said.old said.new result }
 {
@@ -85,8 +81,7 @@ pub extern "C" fn board_inverse(n: u32, columns: &[u16], out: &mut [u16], said: 
 }
 
 // The state is a, h, r. In the first place of `said` stands whether a tick was handed out, 1 or 0.
-#[unsafe(no_mangle)]
-pub extern "C" fn board_tick(
+pub fn board_tick(
     n: u32,
     k: u32,
     sheet: &[u16],
@@ -98,8 +93,8 @@ pub extern "C" fn board_tick(
     said: &mut [u32],
 ) -> u32
     ensures { RunsAs edition1 n k sheet.now tick.now
-        (record { state = state.entry.now; memory = record { words = words.entry.now; marks = marks.old }; out = out.old; said = said.old })
-        (record { state = state.exit.now; memory = record { words = words.exit.now; marks = marks.new }; out = out.new; said = said.new }) result }
+        (record { state = state.old; memory = record { words = words.old; marks = marks.old }; out = out.old; said = said.old })
+        (record { state = state.new; memory = record { words = words.new; marks = marks.new }; out = out.new; said = said.new }) result }
 {
     if state.len() != 3 {
         let sized = kinds::sized(n, k);
@@ -133,8 +128,7 @@ fn report(answer: RunAnswer, state: &mut [u32], said: &mut [u32]) -> u32
 }
 
 // The sums are the switches, the multiplexers and the xor gates.
-#[unsafe(no_mangle)]
-pub extern "C" fn board_price(n: u32, k: u32, sheet: &[u16], sums: &mut [u32]) -> u32
+pub fn board_price(n: u32, k: u32, sheet: &[u16], sums: &mut [u32]) -> u32
     ensures { PricesAs edition1 n k sheet.now sums.old sums.new result }
 {
     if sums.len() != 3 {
@@ -152,8 +146,7 @@ pub extern "C" fn board_price(n: u32, k: u32, sheet: &[u16], sums: &mut [u32]) -
 }
 
 // The length of the text is the one place of `length`. Where `said` is not three places the answer is 2, after 15 and 1, which only the card tells: so the listing is lent a text of no places, and refuses that.
-#[unsafe(no_mangle)]
-pub extern "C" fn board_list(
+pub fn board_list(
     card: &[u8],
     text: &mut [u8],
     length: &mut [u32],

@@ -5,7 +5,7 @@
  * An order is n columns: column j is the place at which word 2^j leaves, and word i leaves at the exclusive or of the
  * columns at the set bits of i.
  *
- * Link with libboard.a, for x86-64 (rt staticlib board makes target/staticlib/libboard.a). No function allocates, keeps
+ * Link with libboard.a, for x86-64 (.ci/library board makes target/staticlib/libboard.a). No function allocates, keeps
  * a pointer or changes anything but the buffers it is lent; each may be called from several threads on different
  * buffers. board_list keeps some 16 KB on the stack, the others far less.
  * Every buffer is the caller's, and is lent for the call: a pointer, and after it the number of its elements (not bytes).

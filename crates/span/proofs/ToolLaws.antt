@@ -5,7 +5,7 @@
 --   scans_independent    so does one that says that they are independent
 --   scans_masks          a scan of at most `most_scanned` numbers has their masks
 --   scans_unique         two right scans of a list have the same masks, and say the same
-use Prim.Native.Nat.{ℕ, ◌+◌, ◌^◌, ◌≤◌, ◌<◌}
+use Prim.Native.Nat.{ℕ, ◌^◌, ◌≤◌, ◌<◌}
 use mathlib.Core.Path.{◌≡◌, sym, ap, ◌∙◌}
 use mathlib.Core.Bool.{true}
 use mathlib.Core.List.{List, [], ◌∷◌, ◌++◌}

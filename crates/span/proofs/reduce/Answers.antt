@@ -1,6 +1,5 @@
 use Rattle.std.proofs.Common.{ℕ, ◌+◌, ◌≤◌, ◌<◌, ◌^◌, ◌≢◌, List, get_or, bit_xor, ap, arith}
 use native.Mathlib.Decide.{ℕ_discrete}
-use native.Mathlib.Nat.{div-eq_of_lt}
 use lib.Bits.{xor_self, xor_zero_r}
 use lib.Count.{count_leading_zeros}
 use Rattle.bits.proofs.XorLaws.{xor_assoc}
@@ -11,9 +10,6 @@ use Rattle.span.proofs.reduce.Goals as goal
 
 start : {es : List ℕ} {e : ℕ} → e < 2 ^ (width + width) → Reducing es e e
 start {e = e} fits = record { fits = fits; made = λ vs h. rw (xor_self e) (made_zero vs) }
-
-done : {es : List ℕ} {e left : ℕ} → Reducing es e left → left < 2 ^ width → Reduces es e left
-done i short = record { made = i.made; stuck = λ vs h n. absurd (n (div-eq_of_lt short)) }
 
 module _ {es : List ℕ} {e left : ℕ} (i : Reducing es e left) (long : 2 ^ width ≤ left) where
   abbrev at : ℕ
@@ -48,6 +44,3 @@ returns-then-left-less c = none c.loop-left.invariant c.loop-left-test.true c.if
 
 pub loop-left-preserved : goal.loop-left-preserved
 loop-left-preserved c = more c.loop-left.invariant c.loop-left-test.true c.if-left-less.false
-
-pub returns : goal.returns
-returns c = done c.loop-left.invariant c.loop-left-test.false

@@ -1,0 +1,60 @@
+-- Nothing is changed before the first fault was looked for, and past it none applies.
+use Rattle.std.proofs.Common.{ℕ, ◌≡◌, ◌≤◌, Bool, List, length, refl, ap, sym, ◌∙◌}
+use mathlib.Core.Option.{Option}
+use native.Mathlib.Decide.{dec_le, ℕ_discrete}
+use Rattle.kinds.specs.Answers.{over_front, if_holds}
+use Rattle.kinds.specs.First.{first_of}
+use Rattle.kinds.specs.declared.Refusal.{Refusal}
+use Rattle.kinds.proofs.TruthLaws.{holds_yes, denied}
+use Rattle.kinds.proofs.FirstLaws.{first_take, first_skip}
+use Rattle.kinds.proofs.AnswerLaws.{refused_by, refuses, does}
+use Rattle.faults.specs.Marks.{put, with_marks}
+use Rattle.faults.specs.Table.{fault_table}
+use Rattle.memory.specs.Memory.{Memory, Access, words_at, served, Fitting}
+use Rattle.memory.specs.Serving.{serve_table}
+use Rattle.memory.proofs.MemoryLaws.{same_memory}
+use Rattle.memory.proofs.serve.Goals as goal
+
+module _ (A : Access) (m : Memory) (out : List ℕ) (fit : Fitting (length A.writes) (length A.words) (length A.reads) (length out)) where
+  past_2 : (after : Bool) (k : ℕ) {o : Option Refusal} → o ≡ first_of (fault_table after k A.writes A.reads m.marks) → o ≡ first_of (serve_table after k A m out)
+  past_2 after k e = e ∙ sym (first_skip _ _ (λ wrong. wrong fit))
+
+  abbrev room : Dec (length A.reads ≤ length out)
+  room = dec_le (length A.reads) (length out)
+
+  abbrev each : Dec (length A.words ≡ length A.writes)
+  each = ℕ_discrete (length A.words) (length A.writes)
+
+  both_done : {out' marks₁ words' marks' : List ℕ} → out' ≡ if_holds room (over_front (words_at A.reads m.words) out) out
+      → marks₁ ≡ if_holds room (with_marks 0 A.reads m.marks) m.marks → words' ≡ if_holds each (put A.writes A.words m.words) m.words
+      → marks' ≡ if_holds each (with_marks 1 A.writes marks₁) marks₁
+      → (◌≡◌ {A = Memory} (record { words = words'; marks = marks' }) (served A m)) × (out' ≡ over_front (words_at A.reads m.words) out)
+  both_done o e w f = (
+    same_memory (w ∙ holds_yes each _ _ fit.a_word_each)
+        (f ∙ holds_yes each _ _ fit.a_word_each ∙ ap (with_marks 1 A.writes) (e ∙ holds_yes room _ _ fit.room)),
+    o ∙ holds_yes room _ _ fit.room,
+  )
+
+pub returns-then-not-fitting : goal.returns-then-not-fitting
+returns-then-not-fitting c = refused_by (first_take _ _ (denied c.fitting.ensures c.if-not-fitting.true)) (refl, refl)
+
+pub returns-then-not-sound : goal.returns-then-not-sound
+returns-then-not-sound c =
+    let x = c.args in
+    let A : Access = record { writes = x.writes.now; words = x.came.now; reads = x.reads.now } in
+    let m : Memory = record { words = x.words.now; marks = x.marks.now } in
+    let fit = c.fitting.ensures.0 c.if-not-fitting.false in
+    refuses (denied c.is_done-sound.ensures c.if-not-sound.true) (past_2 A m x.out.now fit x.after x.k c.first_fault-answer.ensures) (refl, refl)
+
+pub returns : goal.returns
+returns c =
+    let x = c.args in
+    let A : Access = record { writes = x.writes.now; words = x.came.now; reads = x.reads.now } in
+    let m : Memory = record { words = x.words.now; marks = x.marks.now } in
+    let fit = c.fitting.ensures.0 c.if-not-fitting.false in
+    let taken = c.take_out.ensures in
+    let stored = c.store.ensures in
+    does
+    (c.is_done-sound.ensures.0 c.if-not-sound.false)
+    (past_2 A m x.out.now fit x.after x.k c.first_fault-answer.ensures)
+    (both_done A m x.out.now fit taken.out_after taken.marks_after stored.words_after stored.marks_after)

@@ -6,7 +6,6 @@ use Rattle.text.specs.declared.Numeral.TheVariants.{Bad}
 use Rattle.text.proofs.ReadLaws.{more, GoesOn, digits, digits_more, digits_stop, digits_none}
 use Rattle.text.proofs.number.Invariants.{Reads}
 use Rattle.text.proofs.number.Goals as goal
-use Rattle.text.proofs.number.Goals.{then-value-eq0+else-place-at, else-value-eq0}
 use Rattle.text.proofs.number.Goals.{else-loop-place-test, then-loop-place-test+then-byte-lt48, then-loop-place-test+else-byte-lt48+then-byte-gt57}
 
 module _ {b : List ℕ} {at value place : ℕ} (r : Reads b at value place) where
@@ -66,7 +65,7 @@ returns-then-value-gt65535 c = stop c.loop-place.invariant c.loop-place-test.tru
 pub loop-place-preserved : goal.loop-place-preserved
 loop-place-preserved c =
     again c.loop-place.invariant c.loop-place-test.true
-    (elim c.if-value-eq0.branch [ then-value-eq0+else-place-at w ↦ omega arith | else-value-eq0 w ↦ omega arith ])
+    (grind arith)
 
 -- the loop was left: at the end, or since the byte is no digit
 pub returns-then-place-at-2 : goal.returns-then-place-at-2

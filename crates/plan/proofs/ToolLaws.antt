@@ -1,6 +1,7 @@
 -- What follows from the planner's contract alone.
 --   plans_unique      it has one answer, and leaves one content
---   plans_with_unique so has the sheet with given read stages--   plans_done        every order within the sizes is planned, if the lent sheet has its places
+--   plans_with_unique so has the sheet with given read stages
+--   plans_done        every order within the sizes is planned, if the lent sheet has its places
 --   plans_exist       and the planned sheet is such an answer
 -- And what its check tells, where it says a:
 --   plannable         done, everything is sound

@@ -1,0 +1,130 @@
+-- Past the check both sides keep the layout, so that each sum is small, and no control is 0.
+use Rattle.std.proofs.Common.{true, ℕ, ◌+◌, ◌-◌, ◌*◌, ◌^◌, ◌≡◌, ◌≤◌, sym, ap, ap₂, ◌∙◌, List, [], ◌∷◌, length, get_or, take, drop, length-drop, length-take-le, get_or-take, get_or-drop, Fits, w16, w32, add-mul, mul-le-mul, pow_mono, arith}
+use Rattle.kinds.specs.Edition.{edition1, Sized}
+use Rattle.kinds.specs.Frame.{tick_bits}
+use Rattle.kinds.specs.Refusal.{said}
+use Rattle.kinds.proofs.TruthLaws.{says_yes}
+use Rattle.kinds.proofs.AnswerLaws.{done_by}
+use Rattle.bits.specs.Word.{TwoTo}
+use Rattle.sheet.specs.Sheet.{count_place, stage_places, stages_in, side_of, write_places, read_places, write_side, read_side}
+use Rattle.sheet.specs.Layout.{FormedSide}
+use Rattle.sheet.proofs.StageLaws.{formed_stage}
+use Rattle.sheet.proofs.PlaceLaws.{unused_part, last_part}
+use Rattle.sheet.proofs.TableLaws.{check_sound}
+use Rattle.price.specs.Price.{total, xor_gates_of, all_stages}
+use Rattle.price.proofs.PriceLaws.{controlled, total_append, total_const, gates_few}
+use Rattle.price.proofs.price.Goals as goal
+
+-- where a sheet of 64 places has the counts and the stages of its sides
+module _ (s : List ℕ) where
+  write_count_law : get_or s 15 0 ≡ count_place edition1 (write_places edition1 s)
+  write_count_law = sym (get_or-take 32 s 15 0 (omega arith))
+
+  read_count : get_or s 47 0 ≡ count_place edition1 (read_places edition1 s)
+  read_count = sym (get_or-drop 32 s 15 0)
+
+  write_stages : take 16 (drop 16 s) ≡ stage_places edition1 (write_places edition1 s)
+  write_stages = unused_part s 0 16 32 16 32 (omega arith) (omega arith)
+
+  read_stages_law : take (length s - 48) (drop 48 s) ≡ stage_places edition1 (read_places edition1 s)
+  read_stages_law = last_part s 32 16
+
+  of_each : (n k b : ℕ) → total (λ _. b) (all_stages edition1 n k s) ≡ (get_or s 15 0 + get_or s 47 0) * b
+  of_each n k b = total_append (λ _. b) (write_side edition1 n k s).stages (read_side edition1 n k s).stages
+      ∙ ap₂ ◌+◌ (total_const b (stage_places edition1 (write_places edition1 s)) (count_place edition1 (write_places edition1 s)))
+      (total_const b (stage_places edition1 (read_places edition1 s)) (count_place edition1 (read_places edition1 s)))
+      ∙ ap₂ (λ (w r : ℕ). w * b + r * b) (sym write_count_law) (sym read_count)
+      ∙ sym (add-mul (get_or s 15 0) (get_or s 47 0) b)
+
+  write_gates : (n k : ℕ) {r : ℕ} → r ≡ total xor_gates_of (stages_in (get_or s 15 0) (take 16 (drop 16 s)))
+      → r ≡ total xor_gates_of (write_side edition1 n k s).stages
+  write_gates n k e = e ∙ ap₂ (λ (m : ℕ) (x : List ℕ). total xor_gates_of (stages_in m x)) write_count_law write_stages
+
+  read_gates : (n k : ℕ) {r : ℕ} → r ≡ total xor_gates_of (stages_in (get_or s 47 0) (take (length s - 48) (drop 48 s)))
+      → r ≡ total xor_gates_of (read_side edition1 n k s).stages
+  read_gates n k e = e ∙ ap₂ (λ (m : ℕ) (x : List ℕ). total xor_gates_of (stages_in m x)) read_count read_stages_law
+
+power : {n k r : ℕ} → Sized edition1 n k → TwoTo (k - 1) r → r ≡ 2 ^ (k - 1)
+power sized two_to = two_to.fits (omega (arith, sized.most))
+
+ports : {n k r : ℕ} → Sized edition1 n k → TwoTo (k - 1) r → r ≤ 2 ^ 4
+ports {k = k} sized two_to = omega (arith, power sized two_to, pow_mono {i = k - 1} {j = 4} (omega (arith, sized.most)))
+
+module _ {x y : ℕ} (f : Fits w16 x) (g : Fits w16 y) where
+  few : (p : ℕ) → p ≤ 2 ^ 4 → (x + y) * p ≤ 2 ^ 17 * 2 ^ 4
+  few p h = let both : x + y ≤ 2 ^ 17 = omega arith in mul-le-mul both h
+
+  switches_fit : {p : ℕ} → p ≤ 2 ^ 4 → Fits w32 ((x + y) * p)
+  switches_fit {p} h = omega (arith, few p h)
+
+  multiplexers_fit : {p : ℕ} → p ≤ 2 ^ 4 → Fits w32 (2 * ((x + y) * p))
+  multiplexers_fit {p} h = omega (arith, few p h)
+
+gates_fit : {n k : ℕ} {l : List ℕ} → Sized edition1 n k → FormedSide edition1 n k l → total xor_gates_of (side_of edition1 n k l).stages ≤ 15 * 8
+gates_fit {n} {k} {l} sized formed =
+    let ticks : 2 ^ tick_bits n k ≤ 2 ^ 16 = pow_mono {i = tick_bits n k} {j = 16} (omega (arith, sized.frame.most)) in
+    let few = gates_few (stage_places edition1 l) (count_place edition1 l) (λ s h. omega (arith, (formed_stage formed s h).control, ticks)) in
+    omega (arith, few, formed.count)
+
+three : {a b c x y z : ℕ} → a ≡ x → b ≡ y → c ≡ z → a ∷ b ∷ c ∷ [] ≡ x ∷ y ∷ z ∷ []
+three e f g = cc
+
+pub bounds-sheet-15 : goal.bounds-sheet-15
+bounds-sheet-15 c = omega (arith, (check_sound true c.check-answer.ensures c.in_default.is).1)
+
+pub bounds-sheet : goal.bounds-sheet
+bounds-sheet c = omega (arith, (check_sound true c.check-answer.ensures c.in_default.is).1)
+
+pub overflow_sub-k : goal.overflow_sub-k
+overflow_sub-k c = (check_sound true c.check-answer.ensures c.in_default.is).0.least
+
+pub overflow_mul-switches : goal.overflow_mul-switches
+overflow_mul-switches c =
+    switches_fit (c.type_inv.sheet 15) (c.type_inv.sheet 47) (ports (check_sound true c.check-answer.ensures c.in_default.is).0 c.two_to.ensures)
+
+pub slice_bounds-xor_gates-end : goal.slice_bounds-xor_gates-end
+slice_bounds-xor_gates-end c = omega (arith, (check_sound true c.check-answer.ensures c.in_default.is).1)
+
+pub xor_gates-write_gates-requires : goal.xor_gates-write_gates-requires
+xor_gates-write_gates-requires c =
+    let s = c.args.sheet.now in
+    let (_, places, formed) = check_sound true c.check-answer.ensures c.in_default.is in
+    controlled (write_count_law s) (write_stages s) (length-take-le 32 s (omega (arith, places))) formed.write
+
+pub slice_bounds-xor_gates-count-2 : goal.slice_bounds-xor_gates-count-2
+slice_bounds-xor_gates-count-2 c = omega (arith, (check_sound true c.check-answer.ensures c.in_default.is).1)
+
+pub slice_bounds-xor_gates-start-2 : goal.slice_bounds-xor_gates-start-2
+slice_bounds-xor_gates-start-2 c = omega (arith, (check_sound true c.check-answer.ensures c.in_default.is).1)
+
+pub xor_gates-read_gates-requires : goal.xor_gates-read_gates-requires
+xor_gates-read_gates-requires c =
+    let s = c.args.sheet.now in
+    let (_, places, formed) = check_sound true c.check-answer.ensures c.in_default.is in
+    let half : length s - 32 ≡ 32 = omega (arith, places) in
+    controlled (read_count s) (read_stages_law s) (length-drop 32 s ∙ half) formed.read
+
+pub overflow_mul-multiplexers : goal.overflow_mul-multiplexers
+overflow_mul-multiplexers c =
+    multiplexers_fit (c.type_inv.sheet 15) (c.type_inv.sheet 47) (ports (check_sound true c.check-answer.ensures c.in_default.is).0 c.two_to.ensures)
+
+pub overflow_add-gates : goal.overflow_add-gates
+overflow_add-gates c =
+    let s = c.args.sheet.now in
+    let (sized, _, formed) = check_sound true c.check-answer.ensures c.in_default.is in
+    let written = write_gates s c.args.n c.args.k c.xor_gates-write_gates.ensures in
+    let read = read_gates s c.args.n c.args.k c.xor_gates-read_gates.ensures in
+    omega (arith, written, read, gates_fit sized formed.write, gates_fit sized formed.read)
+
+pub returns : goal.returns
+returns c =
+    let n = c.args.n in
+    let k = c.args.k in
+    let s = c.args.sheet.now in
+    let powered = power (check_sound true c.check-answer.ensures c.in_default.is).0 c.two_to.ensures in
+    let switched = ap (λ (x : ℕ). (get_or s 15 0 + get_or s 47 0) * x) powered in
+    done_by (sym (c.check-answer.ensures [] (says_yes tt)) ∙ ap said c.in_default.is) (three
+    (switched ∙ sym (of_each s n k (2 ^ (k - 1))))
+    (omega (arith, switched, of_each s n k (2 * 2 ^ (k - 1))))
+    (ap₂ ◌+◌ (write_gates s n k c.xor_gates-write_gates.ensures) (read_gates s n k c.xor_gates-read_gates.ensures)
+    ∙ sym (total_append xor_gates_of (write_side edition1 n k s).stages (read_side edition1 n k s).stages)))

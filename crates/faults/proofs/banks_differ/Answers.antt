@@ -41,4 +41,4 @@ loop-p-preserved c =
     c.loop-p.invariant
     (c.bank_bits-mask.ensures cell (omega (arith, c.type_inv.cells c.loop-p.p)))
     (omega (arith, mod-lt cell (pow_pos c.args.k), c.requires))
-    c.if-seen-bank-eq1.false
+    (λ e. omega arith)

@@ -1,5 +1,5 @@
 -- Past the check the columns are an order, and both buffers are frames.
-use Rattle.std.proofs.Common.{ℕ, ◌≡◌, List, length, sym, ap, ◌∙◌, arith}
+use Rattle.std.proofs.Common.{ℕ, ◌≡◌, List, length, sym, ap, ◌∙◌, rules, arith}
 use Rattle.kinds.specs.Edition.{edition1, SizedN}
 use Rattle.kinds.specs.Decisions.{sized_n?}
 use Rattle.kinds.specs.Refusal.{said}
@@ -30,12 +30,12 @@ module _ (n : ℕ) (C frame out : List ℕ) {answer : Answer} (says : said answe
 pub move_words-requires : goal.move_words-requires
 move_words-requires c =
     let says = c.check-answer.ensures (mover_lengths c.args.n c.args.frame.now c.args.out.now) c.are_frames-fits.ensures in
-    let done = c.is_done-done.ensures.0 c.if-not-done.false in
+    let done = c.is_done-done.ensures.0 (search rules) in
     frames c.args.n c.args.columns.now c.args.frame.now c.args.out.now says done
 
 pub returns : goal.returns
 returns c =
     let says = c.check-answer.ensures (mover_lengths c.args.n c.args.frame.now c.args.out.now) c.are_frames-fits.ensures in
-    let done = c.is_done-done.ensures.0 c.if-not-done.false in
+    let done = c.is_done-done.ensures.0 (search rules) in
     let s = sound c.args.n c.args.columns.now c.args.frame.now c.args.out.now says done in
     does done says (rw s.2.count at c.move_words.ensures)

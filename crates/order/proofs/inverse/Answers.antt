@@ -1,5 +1,5 @@
 -- Past the check the columns are an order that the scan holds, and out has a place for each.
-use Rattle.std.proofs.Common.{ℕ, ◌≡◌, List, length, nat_eq, sym, ap, ◌∙◌, arith}
+use Rattle.std.proofs.Common.{ℕ, ◌≡◌, List, length, nat_eq, sym, ap, ◌∙◌, rules, arith}
 use Rattle.kinds.specs.Edition.{edition1, SizedN}
 use Rattle.kinds.specs.Decisions.{sized_n?}
 use Rattle.kinds.specs.Refusal.{said}
@@ -22,13 +22,13 @@ module _ (n : ℕ) (C out : List ℕ) {r : Checked} (checks : ChecksAndScans n C
 
 pub write_inverse-requires : goal.write_inverse-requires
 write_inverse-requires c =
-    let s = sound c.args.n c.args.columns.now c.args.out.now c.check_and_scan-checked.ensures (c.is_done-invertible.ensures.0 c.if-not-invertible.false) in
+    let s = sound c.args.n c.args.columns.now c.args.out.now c.check_and_scan-checked.ensures (c.is_done-invertible.ensures.0 (search rules)) in
     omega (arith, s.0.most, s.1)
 
 pub returns : goal.returns
 returns c =
     let checks = c.check_and_scan-checked.ensures in
-    let done = c.is_done-invertible.ensures.0 c.if-not-invertible.false in
+    let done = c.is_done-invertible.ensures.0 (search rules) in
     let s = sound c.args.n c.args.columns.now c.args.out.now checks done in
     let undone = c.write_inverse.ensures c.args.columns.now (checks.holds done) in
     does done (says c.args.n c.args.columns.now c.args.out.now checks) (rw s.1 at undone s.2)

@@ -83,36 +83,36 @@ module _ {n k : ℕ} {C s : List ℕ} {write read own same : Bool} (t : Told n k
 
 pub returns-then-not-write_wired : goal.returns-then-not-write_wired
 returns-then-not-write_wired c s write read =
-    let t =
-    told c.wiring-write_wiring.ensures c.wiring-read_wiring.ensures c.columns-cells.ensures
+    let t = told
+    c.wiring-write_wiring.ensures c.wiring-read_wiring.ensures c.columns-cells.ensures
     c.independent-write_wired.ensures c.independent-read_wired.ensures c.independent-own_cells.ensures c.agree-in_order.ensures s write read in
     sym (gives_6 t c.if-not-write_wired.true)
 
 pub returns-then-not-read_wired : goal.returns-then-not-read_wired
 returns-then-not-read_wired c s write read =
-    let t =
-    told c.wiring-write_wiring.ensures c.wiring-read_wiring.ensures c.columns-cells.ensures
+    let t = told
+    c.wiring-write_wiring.ensures c.wiring-read_wiring.ensures c.columns-cells.ensures
     c.independent-write_wired.ensures c.independent-read_wired.ensures c.independent-own_cells.ensures c.agree-in_order.ensures s write read in
     sym (past_6 t c.if-not-write_wired.false ∙ gives_7 t c.if-not-read_wired.true)
 
 pub returns-then-not-own_cells : goal.returns-then-not-own_cells
 returns-then-not-own_cells c s write read =
-    let t =
-    told c.wiring-write_wiring.ensures c.wiring-read_wiring.ensures c.columns-cells.ensures
+    let t = told
+    c.wiring-write_wiring.ensures c.wiring-read_wiring.ensures c.columns-cells.ensures
     c.independent-write_wired.ensures c.independent-read_wired.ensures c.independent-own_cells.ensures c.agree-in_order.ensures s write read in
     sym (past_6 t c.if-not-write_wired.false ∙ past_7 t c.if-not-read_wired.false ∙ gives_8 t c.if-not-own_cells.true)
 
 pub returns-then-not-in_order : goal.returns-then-not-in_order
 returns-then-not-in_order c s write read =
     let own : c.independent-own_cells.result ≡ true = search rules in
-    let t =
-    told c.wiring-write_wiring.ensures c.wiring-read_wiring.ensures c.columns-cells.ensures
+    let t = told
+    c.wiring-write_wiring.ensures c.wiring-read_wiring.ensures c.columns-cells.ensures
     c.independent-write_wired.ensures c.independent-read_wired.ensures c.independent-own_cells.ensures c.agree-in_order.ensures s write read in
     sym (past_6 t c.if-not-write_wired.false ∙ past_7 t c.if-not-read_wired.false ∙ past_8 t own ∙ gives_9 t c.if-not-in_order.true)
 
 pub returns : goal.returns
 returns c s write read =
-    let t =
-    told c.wiring-write_wiring.ensures c.wiring-read_wiring.ensures c.columns-cells.ensures
+    let t = told
+    c.wiring-write_wiring.ensures c.wiring-read_wiring.ensures c.columns-cells.ensures
     c.independent-write_wired.ensures c.independent-read_wired.ensures c.independent-own_cells.ensures c.agree-in_order.ensures s write read in
     sym (past_6 t c.if-not-write_wired.false ∙ past_7 t c.if-not-read_wired.false ∙ past_8 t c.if-not-own_cells.false ∙ past_9 t c.if-not-in_order.false)

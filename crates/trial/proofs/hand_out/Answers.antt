@@ -1,4 +1,4 @@
-use Rattle.std.proofs.Common.{ℕ, ◌≡◌, ◌+◌, ◌-◌, ◌*◌, ◌^◌, ◌≤◌, ◌<◌, List, [], ◌++◌, length, get_or, take, drop, sym, ap, ap₂, ◌∙◌, append-nil, arith, drop_of_length-le, length-append, length-take, length-drop}
+use Rattle.std.proofs.Common.{ℕ, ◌≡◌, ◌+◌, ◌-◌, ◌*◌, ◌^◌, ◌≤◌, ◌<◌, List, [], ◌++◌, length, get_or, take, drop, sym, ap, ap₂, ◌∙◌, append-nil, arith, below_none, drop_of_length-le, length-append, length-take, length-drop}
 use native.Mathlib.Decide.{dec_lt}
 use lib.Pow.{high, low}
 use Rattle.kinds.specs.Answers.{over_front}
@@ -12,7 +12,7 @@ use Rattle.run.specs.Tool.{Runs}
 use Rattle.realise.proofs.OneFrame.{blank_call}
 use Rattle.trial.specs.Inside.{leaves_in, frame_handed}
 use Rattle.trial.proofs.CallLaws.{lent, tick_leaves}
-use Rattle.trial.proofs.PassingLaws.{Passing, passing_left, passing_fits, passing_more}
+use Rattle.trial.proofs.PassingLaws.{Passing, passing_start, passing_left, passing_fits, passing_more}
 use Rattle.trial.proofs.PartLaws.{before_part, in_part}
 use Rattle.trial.proofs.hand_out.Invariants.{word_left, Handing}
 use Rattle.trial.proofs.hand_out.Goals as goal
@@ -67,6 +67,12 @@ module _ {n k ports at : ℕ} {s f ws ms : List ℕ} {st : State} (i : Handing n
 
   done : length f ≤ at → f ≡ frame_handed n k s
   done end = in_order_is (2 ^ n) (word_left n k s) 0 f i.passing.frame (λ q l. i.each q (omega (arith, i.passing.frame)))
+
+pub loop-place-init : goal.loop-place-init
+loop-place-init c =
+    let asked = c.requires in
+    let tick = c.two_to-ports.ensures.fits (omega (arith, asked.runnable.sized.most)) in
+    record { passing = passing_start asked.runnable asked.room tick asked.entered; each = below_none _ }
 
 pub slice_bounds-tick-end-in-loop-place : goal.slice_bounds-tick-end-in-loop-place
 slice_bounds-tick-end-in-loop-place c = omega (arith, passing_fits c.loop-place.invariant.passing c.loop-place-test.true)

@@ -1,5 +1,5 @@
 -- Three parts and one place, written into all places of a side one after another, are these four in a row.
-use Rattle.std.proofs.Common.{ℕ, suc, ◌+◌, ◌-◌, ◌<◌, ◌≤◌, ◌≡◌, sym, ap, ◌∙◌, List, [], ◌∷◌, ◌++◌, append_assoc, append-nil, length, take, drop, set, length-set, length-append, length-take, length-drop, drop_of_length-le, length-take-le, take_all, take_at, take-suc-set, arith}
+use Rattle.std.proofs.Common.{ℕ, suc, ◌+◌, ◌-◌, ◌<◌, ◌≤◌, ◌≡◌, sym, ap, ◌∙◌, rules, List, [], ◌∷◌, ◌++◌, append_assoc, append-nil, length, take, drop, set, length-set, length-append, length-take, length-drop, drop_of_length-le, length-take-le, take_all, take_at, take-suc-set, arith}
 use Rattle.bits.specs.Padded.{padded_to, padded}
 use Rattle.bits.proofs.PaddedLaws.{padded_whole, padded_length}
 use Rattle.sheet.specs.Sheet.{flat}
@@ -63,9 +63,9 @@ returns c =
           (part 10 c.args.addresses.now c.pad_into.ensures (sym c.pad_into.auto.part ∙ so_far.addresses))
           (part 5 c.args.wiring.now c.pad_into-2.ensures (sym c.pad_into-2.auto.part ∙ so_far.wiring))
           (c.count-count.ensures.counted ss shows)
-          (part 16 numbers c.pad_into-3.ensures (rest_length _ (so_far.same ∙ c.if-side-ne-SIDE.false))
+          (part 16 numbers c.pad_into-3.ensures (rest_length _ (so_far.same ∙ (search rules)))
           ∙ ap (λ (l : List ℕ). padded_to 16 (take 16 l)) (c.numbers-numbers.ensures ss shows)
           ∙ ap (padded_to 16) (take_all 16 (padded (flat ss)) (omega (arith, padded_length 16 (flat ss) few)))
           ∙ padded_whole 16 (padded (flat ss)) (padded_length 16 (flat ss) few));
-      no_side = λ other. absurd (other c.if-side-ne-SIDE.false);
+      no_side = λ other. absurd (other (search rules));
     }

@@ -14,13 +14,7 @@ use call::RunAnswer;
 use price::Priced;
 use state::State;
 
-pub fn board_plan(
-    n: u32,
-    k: u32,
-    columns: &[u16],
-    sheet: &mut [u16],
-    said: &mut [u32],
-) -> u32
+pub fn board_plan(n: u32, k: u32, columns: &[u16], sheet: &mut [u16], said: &mut [u32]) -> u32
     ensures { AnswersAs (outside_sizes edition1 n k) (Plans edition1 n k columns.now sheet.old sheet.new)
         (sheet.new ≡ sheet.old) said.old said.new result }
 {
@@ -32,13 +26,7 @@ pub fn board_plan(
     told::tell(answer, said)
 }
 
-pub fn board_inspect(
-    n: u32,
-    k: u32,
-    columns: &[u16],
-    sheet: &[u16],
-    said: &mut [u32],
-) -> u32
+pub fn board_inspect(n: u32, k: u32, columns: &[u16], sheet: &[u16], said: &mut [u32]) -> u32
     ensures { AnswersAs (outside_sizes edition1 n k) (Inspects edition1 n k columns.now sheet.now)
         Unit said.old said.new result }
 {
@@ -50,13 +38,7 @@ pub fn board_inspect(
     told::tell(answer, said)
 }
 
-pub fn board_move(
-    n: u32,
-    columns: &[u16],
-    frame: &[u32],
-    out: &mut [u32],
-    said: &mut [u32],
-) -> u32
+pub fn board_move(n: u32, columns: &[u16], frame: &[u32], out: &mut [u32], said: &mut [u32]) -> u32
     ensures { AnswersAs (outside_n edition1 n) (Moves edition1 n columns.now frame.now out.old out.new)
         (out.new ≡ out.old) said.old said.new result }
 {
@@ -146,12 +128,7 @@ pub fn board_price(n: u32, k: u32, sheet: &[u16], sums: &mut [u32]) -> u32
 }
 
 // The length of the text is the one place of `length`. Where `said` is not three places the answer is 2, after 15 and 1, which only the card tells: so the listing is lent a text of no places, and refuses that.
-pub fn board_list(
-    card: &[u8],
-    text: &mut [u8],
-    length: &mut [u32],
-    said: &mut [u32],
-) -> u32
+pub fn board_list(card: &[u8], text: &mut [u8], length: &mut [u32], said: &mut [u32]) -> u32
     ensures { ListsAs edition1 card.now text.old text.new length.old length.new said.old said.new result }
 {
     if said.len() != 3 {

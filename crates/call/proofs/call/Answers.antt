@@ -168,10 +168,10 @@ returns-in-Refused-answer c =
     let args = c.args in
     let it = (goal.at.returns-in-Refused-answer c).In_default in
     let served =
-        serves it c.serve-answer.result c.two_to-half.ensures c.two_to-ticks.ensures c.words_leaving-leaving.ensures
-        (record { same = c.places_of.auto.places; places = c.places_of.ensures }) (record { same = c.places_of-2.auto.places; places = c.places_of-2.ensures })
-        c.serve-answer.ensures
-        in
+    serves it c.serve-answer.result c.two_to-half.ensures c.two_to-ticks.ensures c.words_leaving-leaving.ensures
+    (record { same = c.places_of.auto.places; places = c.places_of.ensures }) (record { same = c.places_of-2.auto.places; places = c.places_of-2.ensures })
+    c.serve-answer.ensures
+    in
     calls_past edition1 args.n args.k args.write args.read (lent it) (none_given it)
     (λ W R write-shows read-shows.
     serving_refuses args.n args.k (cell_of args.k W) (cell_of args.k R) (lent it) (sound it) c.serve-answer.result (served W R write-shows read-shows)
@@ -183,10 +183,10 @@ returns c =
     let args = c.args in
     let it = (goal.at.returns c).In_default in
     let served =
-        serves it c.serve-answer.result c.two_to-half.ensures c.two_to-ticks.ensures c.words_leaving-leaving.ensures
-        (record { same = c.places_of.auto.places; places = c.places_of.ensures }) (record { same = c.places_of-2.auto.places; places = c.places_of-2.ensures })
-        c.serve-answer.ensures
-        in
+    serves it c.serve-answer.result c.two_to-half.ensures c.two_to-ticks.ensures c.words_leaving-leaving.ensures
+    (record { same = c.places_of.auto.places; places = c.places_of.ensures }) (record { same = c.places_of-2.auto.places; places = c.places_of-2.ensures })
+    c.serve-answer.ensures
+    in
     let frame = frame_ticks it c.two_to-ticks.ensures in
     calls_past edition1 args.n args.k args.write args.read (lent it) (none_given it)
     (λ W R write-shows read-shows.

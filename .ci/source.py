@@ -128,20 +128,21 @@ class Antt:
 class Rattle:
     """The code of a crate: declared types, functions, constants, and what contracts use."""
 
-    def __init__(self, crate, path):
-        self.crate, self.path = crate, path
+    def __init__(self, crate, paths):
+        self.crate = crate
         self.types, self.functions, self.constants, self.uses, self.code_uses = [], [], [], {}, {}
         self.ensures = []  # (function, text) of the public ones
-        with open(path) as f:
-            self.text = f.read().split("\n")
-        self.read()
+        for path in paths:
+            with open(path) as f:
+                self.text = f.read().split("\n")
+            self.read()
 
     def read(self):
         item, owner, current, public = None, None, None, False
         i = 0
         while i < len(self.text):
             line = self.text[i]
-            ghost = re.match(r"^ghost use (\S+?)\.\{(.*)\};$", line)
+            ghost = re.match(r"^ *ghost use (\S+?)\.\{(.*)\};$", line)
             code = re.match(r"^use (\w+)::\{?([\w, ]+)\}?;$", line)
             if ghost:
                 for part in ghost.group(2).split(", "):
@@ -169,7 +170,7 @@ class Rattle:
                 current = (owner + "::" if owner and line.startswith(" ") else "") + f.group(2)
                 public = bool(f.group(1))
                 self.functions.append(current)
-            c = re.match(r"^(?:pub )?const (\w+)", line)
+            c = re.match(r"^(?:pub )?(?:const|type) (\w+)", line)
             if c:
                 self.constants.append(c.group(1))
             if re.match(r"^\s*ensures (\w+ )?\{", line):
@@ -196,9 +197,7 @@ class Source:
                 a = Antt(c, path)
                 if a.file != "Lib":
                     self.proofs[path] = a
-            for path in sorted(glob.glob(f"crates/{c}/src/*.rt")):
-                r = Rattle(c, path)
-                self.code[c] = r
+            self.code[c] = Rattle(c, sorted(glob.glob(f"crates/{c}/src/*.rt")))
             self.edits[c] = [os.path.basename(p)[: -len(".edit")] for p in glob.glob(f"crates/{c}/must-fail/*.edit")]
         self.definition = {d.key: d for a in self.specs.values() for d in a.definitions}
         self.definition.update({d.key: d for r in self.code.values() for d in r.types})
@@ -215,7 +214,7 @@ class Source:
         if parts[:1] != ["specs"]:
             return None
         if parts[1] == "declared":
-            return self.definition.get((crate, "src", parts[2]))
+            return self.definition.get((crate, "src", [p for p in parts if p != "TheVariants"][-1]))
         cases = (d for d in self.definition.values() if d.key[:2] == (crate, parts[1]) and d.lines[0].startswith("pub data ") and name in d.members)
         return self.definition.get((crate, parts[1], name)) or next(cases, None)
 

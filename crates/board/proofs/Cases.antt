@@ -3,11 +3,10 @@ use Prim.Native.Nat.{ℕ}
 use mathlib.Core.Path.{◌≡◌, refl}
 use mathlib.Core.Bool.{true, false}
 use mathlib.Core.List.{List, [], ◌∷◌, map}
+use Rattle.std.specs.Prelude.{Ok, Err}
 use Rattle.kinds.specs.declared.Port.{Port}
 use Rattle.kinds.specs.declared.Refusal.TheVariants.{Layout, WriteClash, Overwrite, ReadClash}
-use Rattle.price.specs.declared.Priced.TheVariants.{Costs, Refused as Unpriced}
 use Rattle.state.specs.declared.State.{State}
-use Rattle.call.specs.declared.RunAnswer.TheVariants.{Done, Refused}
 use Rattle.board.specs.Names.{state_in, state_out, said_after, sums_after}
 
 places_in : state_in (2 ∷ 1 ∷ 4 ∷ []) ≡ record { a = 2; h = 1; r = 4 }
@@ -25,9 +24,9 @@ after = record { a = 2; h = 1; r = 4 }
 abbrev port : ℕ → Port
 port p = record { 0 = p }
 
-told : map (λ a. said_after a before) (Done after true ∷ Done after false ∷ Refused (WriteClash (port 1) (port 3)) ∷ Refused (ReadClash (port 0) (port 2)) ∷ Refused Overwrite ∷ [])
+told : map (λ a. said_after a before) (Ok (record { state = after; handed = true }) ∷ Ok (record { state = after; handed = false }) ∷ Err (WriteClash (port 1) (port 3)) ∷ Err (ReadClash (port 0) (port 2)) ∷ Err Overwrite ∷ [])
     ≡ (1 ∷ 8 ∷ 9 ∷ []) ∷ (0 ∷ 8 ∷ 9 ∷ []) ∷ (7 ∷ 1 ∷ 3 ∷ []) ∷ (7 ∷ 0 ∷ 2 ∷ []) ∷ before ∷ []
 told = refl
 
-summed : map (λ a. sums_after a before) (Costs (record { switches = 2; multiplexers = 3; gates = 4 }) ∷ Unpriced Layout ∷ []) ≡ (2 ∷ 3 ∷ 4 ∷ []) ∷ before ∷ []
+summed : map (λ a. sums_after a before) (Ok (record { switches = 2; multiplexers = 3; gates = 4 }) ∷ Err Layout ∷ []) ≡ (2 ∷ 3 ∷ 4 ∷ []) ∷ before ∷ []
 summed = refl

@@ -6,13 +6,14 @@ use Prim.Native.Nat.{ℕ}
 use mathlib.Core.Path.{◌≡◌, sym, ap, ◌∙◌}
 use mathlib.Core.List.{List}
 use Rattle.kinds.specs.Edition.{Edition}
-use Rattle.kinds.specs.Refusal.{given}
-use Rattle.price.specs.Price.{refusal_of_price}
-use Rattle.price.specs.declared.Priced.{Priced}
+use Rattle.std.specs.Prelude.{Result}
+use Rattle.kinds.specs.Refusal.{said, given}
+use Rattle.kinds.specs.declared.Refusal.{Refusal}
+use Rattle.price.specs.declared.Sums.{Sums}
 use Rattle.price.proofs.PriceLaws.{prices_unique}
 use Rattle.memory.specs.Memory.{Memory}
-use Rattle.call.specs.Tool.{After, refusal_of_run, state_after}
-use Rattle.call.specs.declared.RunAnswer.{RunAnswer}
+use Rattle.call.specs.Tool.{After, state_after}
+use Rattle.call.specs.declared.Ran.{Ran}
 use Rattle.run.proofs.ToolLaws.{ticks_unique}
 use Rattle.told.proofs.BesidesLaws.{besides_unique}
 use Rattle.board.specs.Names.{state_in, state_out, said_after, Buffers, lent_in, RunsAs, sums_after, PricesAs}
@@ -27,9 +28,9 @@ ticks_as_unique {e} {n} {k} {s} {ws} {b} f g =
     (λ (d, t, told) (c, w, also).
     let left = ticks_unique e n k s (lent_in ws b) t w in
     let same = ap (λ (l : After). l.answer) left in (
-      told.number ∙ ap (λ (z : RunAnswer). given (refusal_of_run z)) same ∙ sym also.number,
-      same_buffers (told.state ∙ ap (λ (z : RunAnswer). state_out (state_after (state_in b.state) z)) same ∙ sym also.state) (ap (λ (l : After). l.memory) left)
-          (ap (λ (l : After). l.out) left) (told.said ∙ ap (λ (z : RunAnswer). said_after z b.said) same ∙ sym also.said),
+      told.number ∙ ap (λ (z : Result Ran Refusal). given (said z)) same ∙ sym also.number,
+      same_buffers (told.state ∙ ap (λ (z : Result Ran Refusal). state_out (state_after (state_in b.state) z)) same ∙ sym also.state) (ap (λ (l : After). l.memory) left)
+          (ap (λ (l : After). l.out) left) (told.said ∙ ap (λ (z : Result Ran Refusal). said_after z b.said) same ∙ sym also.said),
     ))
     (λ kept also. kept ∙ sym also)
     f.tool
@@ -40,7 +41,7 @@ prices_as_unique {l = l} f g =
     besides_unique
     (λ (d, p, r, x) (c, o, q, y).
     let same = prices_unique d c p o in
-    (r ∙ ap (λ (z : Priced). given (refusal_of_price z)) same ∙ sym q, x ∙ ap (λ (z : Priced). sums_after z l) same ∙ sym y))
+    (r ∙ ap (λ (z : Result Sums Refusal). given (said z)) same ∙ sym q, x ∙ ap (λ (z : Result Sums Refusal). sums_after z l) same ∙ sym y))
     (λ x y. x ∙ sym y)
     f.tool
     g.tool

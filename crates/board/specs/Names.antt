@@ -11,23 +11,22 @@
 --   sums_after a l          the places l after the price tool answered a: the three sums; on a refusal, as they came
 --   PricesAs e n k s l l' r     the price: the places l become l', and r is the number of the answer
 --   ListsAs e b t t' l l' s s' r   the listing: the text t, the place l for its length and the places s become t', l' and s', and r is the number of the answer
-use Rattle.std.specs.Prelude.{ℕ, ◌≡◌, cond, List, [], ◌∷◌, length, get_or, drop}
+use Rattle.std.specs.Prelude.{ℕ, ◌≡◌, cond, List, [], ◌∷◌, length, get_or, drop, Result, Ok, Err}
 use Rattle.std.proofs.Math.Option.{some}
 use Rattle.kinds.specs.Edition.{Edition, SizedN, Sized}
 use Rattle.kinds.specs.Decisions.{sized_n?, sized?}
 use Rattle.kinds.specs.First.{Reason}
 use Rattle.kinds.specs.Reasons.{outside}
 use Rattle.kinds.specs.Lengths.{exactly}
-use Rattle.kinds.specs.Refusal.{given}
-use Rattle.price.specs.Price.{Prices, refusal_of_price, sums_of}
-use Rattle.price.specs.declared.Priced.{Priced}
-use Rattle.price.specs.declared.Priced.TheVariants.{Costs, Refused as Unpriced}
+use Rattle.kinds.specs.Refusal.{said, given}
+use Rattle.kinds.specs.declared.Refusal.{Refusal}
+use Rattle.price.specs.Price.{Prices, sums_of}
+use Rattle.price.specs.declared.Sums.{Sums}
 use Rattle.memory.specs.Memory.{Memory}
 use Rattle.state.specs.declared.State.{State}
 use Rattle.lent.specs.Lent.{Lent}
-use Rattle.call.specs.Tool.{refusal_of_run, state_after}
-use Rattle.call.specs.declared.RunAnswer.{RunAnswer}
-use Rattle.call.specs.declared.RunAnswer.TheVariants.{Done, Refused}
+use Rattle.call.specs.Tool.{state_after}
+use Rattle.call.specs.declared.Ran.{Ran}
 use Rattle.run.specs.Tool.{Runs}
 use Rattle.card.specs.Card.{Readable, n_on, k_on, unreadable}
 use Rattle.list.specs.Tool.{Lists}
@@ -45,12 +44,12 @@ state_in l = record { a = get_or l 0 0; h = get_or l 1 0; r = get_or l 2 0 }
 abbrev pub state_out : State → List ℕ
 state_out st = st.a ∷ st.h ∷ st.r ∷ []
 
-abbrev pub said_after : RunAnswer → List ℕ → List ℕ
-said_after (Done st handed) l = cond handed 1 0 ∷ drop 1 l
-said_after (Refused x) l = named (some x) l
+abbrev pub said_after : Result Ran Refusal → List ℕ → List ℕ
+said_after (Ok ran) l = cond ran.handed 1 0 ∷ drop 1 l
+said_after (Err x) l = named (some x) l
 
-pub record Reports (a : RunAnswer) (st st' l l' : List ℕ) (r : ℕ) : Type 0 where
-  pub number : r ≡ given (refusal_of_run a)
+pub record Reports (a : Result Ran Refusal) (st st' l l' : List ℕ) (r : ℕ) : Type 0 where
+  pub number : r ≡ given (said a)
   pub state : st' ≡ state_out (state_after (state_in st) a)
   pub said : l' ≡ said_after a l
 
@@ -65,14 +64,14 @@ lent_in ws b = record { state = state_in b.state; came = ws; memory = b.memory; 
 
 pub record RunsAs (e : Edition) (n k : ℕ) (s ws : List ℕ) (b b' : Buffers) (r : ℕ) : Type 0 where
   pub tool : Besides (outside_sizes e n k) ((length b.state, exactly 3) ∷ (length b.said, exactly 3) ∷ []) r
-      ((a : RunAnswer) × Runs e n k s (lent_in ws b) (record { answer = a; memory = b'.memory; out = b'.out }) × Reports a b.state b'.state b.said b'.said r) (b' ≡ b)
+      ((a : Result Ran Refusal) × Runs e n k s (lent_in ws b) (record { answer = a; memory = b'.memory; out = b'.out }) × Reports a b.state b'.state b.said b'.said r) (b' ≡ b)
 
-abbrev pub sums_after : Priced → List ℕ → List ℕ
-sums_after (Costs p) l = sums_of (Costs p)
-sums_after (Unpriced x) l = l
+abbrev pub sums_after : Result Sums Refusal → List ℕ → List ℕ
+sums_after (Ok p) l = sums_of (Ok p)
+sums_after (Err x) l = l
 
 pub record PricesAs (e : Edition) (n k : ℕ) (s l l' : List ℕ) (r : ℕ) : Type 0 where
-  pub tool : Besides (outside_sizes e n k) ((length l, exactly 3) ∷ []) r ((a : Priced) × Prices e n k s a × (r ≡ given (refusal_of_price a)) × (l' ≡ sums_after a l)) (l' ≡ l)
+  pub tool : Besides (outside_sizes e n k) ((length l, exactly 3) ∷ []) r ((a : Result Sums Refusal) × Prices e n k s a × (r ≡ given (said a)) × (l' ≡ sums_after a l)) (l' ≡ l)
 
 abbrev pub ListsAs : Edition → List ℕ → List ℕ → List ℕ → List ℕ → List ℕ → List ℕ → List ℕ → ℕ → Type 0
 ListsAs e b t t' l l' s s' r =

@@ -1,95 +1,76 @@
 // One call of a run over any two opened sides: the words that came go in by the one, and the next tick of the frame before, if one is left, goes out by the other.
 #![tactic(auto)]
 
-ghost use Rattle.std.specs.Prelude.{◌≡◌, cond, ◌^◌, ◌≤◌, length};
+ghost use Rattle.std.specs.Prelude.{◌≡◌, ◌^◌, ◌≤◌, length};
 ghost use Rattle.kinds.specs.Edition.{edition1};
 ghost use Rattle.call.specs.Tool.{Calls};
 ghost use Rattle.call.specs.Inside.{most_ports, ListsPlaces};
 
-use kinds::{Answer, Refusal, Tick};
+use kinds::{MOST_PORTS, Refusal, Tick};
+use lent::Lengths;
 use maps::OpenSide;
 use state::State;
 
-// Done: the new state, and whether a tick was handed out.
-#[derive(Clone, Copy)]
-pub enum RunAnswer {
-    Done(State, bool),
-    Refused(Refusal),
+// What a call that is done answers: the new state, and whether a tick was handed out.
+#[derive(Clone, Copy, Debug, PartialEq, Eq)]
+pub struct Ran {
+    pub state: State,
+    pub handed: bool,
 }
-
-// Room for the ports of a tick.
-const PORTS: usize = 1 << kinds::MOST_K;
 
 // 1, 2 and 10, and then 11 to 14; the marks are judged as they came.
 pub fn call(
     n: u32,
     k: u32,
-    write: OpenSide,
-    read: OpenSide,
+    write: &OpenSide,
+    read: &OpenSide,
     state: State,
     came: &[u32],
     out: &mut [u32],
     words: &mut [u32],
     marks: &mut [u8],
-) -> RunAnswer
-    ensures { Calls edition1 n k write read
-        (record { state = state; came = came.now; memory = record { words = words.entry.now; marks = marks.old }; out = out.old })
-        (record { answer = result; memory = record { words = words.exit.now; marks = marks.new }; out = out.new }) }
+) -> Result<Ran, Refusal>
+    ensures { Calls edition1 n k write.now read.now
+        (record { state = state; came = came.now; memory = record { words = words.old; marks = marks.old }; out = out.old })
+        (record { answer = result; memory = record { words = words.new; marks = marks.new }; out = out.new }) }
 {
-    let checked = lent::check(n, k, state, came.len(), out.len(), words.len(), marks.len());
-    if let Answer::Refused(refusal) = checked {
-        return RunAnswer::Refused(refusal);
-    }
-    let ticks = bits::two_to(n - k);
-    let half = bits::two_to(n);
+    let lengths = Lengths {
+        came: came.len(),
+        out: out.len(),
+        words: words.len(),
+        marks: marks.len(),
+    };
+    let sizes = lent::check(n, k, state, lengths)?;
+    let ticks = sizes.ticks();
+    let half = sizes.words();
+    let handed = state.r < ticks;
+    let arriving = came.len();
+    let leaving = if handed { out.len() } else { 0 };
+    let mut writes = [0; MOST_PORTS];
+    let mut reads = [0; MOST_PORTS];
+    let writes = &mut writes[..arriving];
+    let reads = &mut reads[..leaving];
     let into = state.h * half;
     let from = (1 - state.h) * half;
-    let reading = state.r < ticks;
-    let arriving = came.len();
-    let leaving = words_leaving(reading, out.len());
-    let mut writes = [0; PORTS];
-    let mut reads = [0; PORTS];
-    places_of(write, Tick(state.a), into, &mut writes[0..arriving]);
-    places_of(read, Tick(state.r), from, &mut reads[0..leaving]);
-    let answer = memory::serve(
-        false,
-        k,
-        &writes[0..arriving],
-        came,
-        &reads[0..leaving],
-        out,
-        words,
-        marks,
-    );
-    if let Answer::Refused(refusal) = answer {
-        return RunAnswer::Refused(refusal);
-    }
-    RunAnswer::Done(state.next(ticks, came), reading)
-}
-
-fn words_leaving(reading: bool, ports: usize) -> usize
-    ensures { result ≡ cond reading ports 0 }
-{
-    if reading {
-        return ports;
-    }
-    0
+    places_of(write, Tick(state.a), into, writes);
+    places_of(read, Tick(state.r), from, reads);
+    memory::serve(false, k, writes, came, reads, out, words, marks)?;
+    Ok(Ran {
+        state: state.next(ticks, came),
+        handed,
+    })
 }
 
 // The cells of a tick, as places of the memory. Where no words come or leave there is no room for a tick's cells, `cells` refuses, and the list stays empty.
-fn places_of(side: OpenSide, tick: Tick, base: u32, places: &mut [u32])
+fn places_of(side: &OpenSide, tick: Tick, base: u32, places: &mut [u32])
     requires places_len_bound { length places.old ≤ most_ports }
     requires base_bound { base ≤ 2 ^ 16 }
-    ensures { ListsPlaces side tick.0 base places.old places.new }
+    ensures { ListsPlaces side.now tick.0 base places.old places.new }
 {
-    let mut cells = [0; PORTS];
-    let ports = places.len();
-    side.cells(tick, &mut cells[0..ports]);
-    let listed = &cells[0..ports];
-    let mut p = 0;
-    while p < ports {
-        let cell = listed[p] as u32;
-        places[p] = base + cell;
-        p += 1;
+    let mut cells = [0; MOST_PORTS];
+    let cells = &mut cells[..places.len()];
+    let _ = side.cells(tick, cells);
+    for (p, cell) in cells.iter().enumerate() {
+        places[p] = base + u32::from(*cell);
     }
 }

@@ -17,6 +17,7 @@ use mathlib.Core.Option.{Option, none, some}
 use native.Mathlib.Omega.{arith}
 use lib.ListN.{length, drop}
 use lib.Seq.{drop-length}
+use Rattle.std.specs.Prelude.{Result, Ok, Err}
 use Rattle.kinds.specs.Answers.{Says, over_front}
 use Rattle.kinds.specs.Edition.{Edition, Sized, sheet_places}
 use Rattle.kinds.specs.Frame.{ticks}
@@ -31,8 +32,7 @@ use Rattle.memory.specs.Memory.{Memory, filled_marks}
 use Rattle.call.specs.Call.{Outcome}
 use Rattle.lent.specs.Lent.{Lent}
 use Rattle.call.specs.Tool.{After, state_after, handed_out, ComesOf}
-use Rattle.call.specs.declared.RunAnswer.{RunAnswer}
-use Rattle.call.specs.declared.RunAnswer.TheVariants.{Done, Refused}
+use Rattle.call.specs.declared.Ran.{Ran}
 use Rattle.call.proofs.CallLaws.{call_refused, call_leaving, call_idle}
 use Rattle.run.specs.Tool.{before_faults, sheet_call}
 use Rattle.run.proofs.ToolLaws.{sheet_call_sound}
@@ -47,9 +47,9 @@ use Rattle.caller.specs.Caller.{Made, start_of, seen_by}
 use Rattle.caller.proofs.ToolLaws.{tool_conserved, tool_right, tool_tick, tool_hands, tool_alone}
 
 -- what the tool answers where o comes of a call
-answer_of : Option Refusal → Outcome → RunAnswer
-answer_of none o = Done o.state o.handed
-answer_of (some x) o = Refused x
+answer_of : Option Refusal → Outcome → Result Ran Refusal
+answer_of none o = Ok (record { state = o.state; handed = o.handed })
+answer_of (some x) o = Err x
 
 left_of : Lent → Outcome → After
 left_of b o = record { answer = answer_of o.refusal o; memory = o.memory; out = over_front o.leaving b.out }

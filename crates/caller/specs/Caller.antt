@@ -4,8 +4,9 @@
 --   seen_by l                what is seen of a call that leaves l: the refusal; whether a tick was handed out; and, if one was, its words, which stand in the out buffer
 use Rattle.std.specs.Prelude.{ℕ, suc, ◌<◌, ◌≡◌, cond, List, [], length}
 use Rattle.kinds.specs.Edition.{Edition}
+use Rattle.kinds.specs.Refusal.{said}
 use Rattle.lent.specs.Lent.{Lent}
-use Rattle.call.specs.Tool.{After, refusal_of_run, state_after, handed_out}
+use Rattle.call.specs.Tool.{After, state_after, handed_out}
 use Rattle.run.specs.Tool.{Runs}
 use Rattle.promise.specs.Series.{call_at}
 use Rattle.promise.specs.Seen.{Seen}
@@ -21,4 +22,4 @@ abbrev pub start_of : (ℕ → Lent) → Stand
 start_of b = record { state = (b 0).state; memory = (b 0).memory }
 
 abbrev pub seen_by : After → Seen
-seen_by l = record { refusal = refusal_of_run l.answer; handed = handed_out l.answer; leaving = cond (handed_out l.answer) l.out [] }
+seen_by l = record { refusal = said l.answer; handed = handed_out l.answer; leaving = cond (handed_out l.answer) l.out [] }

@@ -9,39 +9,33 @@
 --   card_first      a card begins with a number
 --   card_second     after its first number comes another
 --   card_others     after these two comes a row of numbers
---   columns_few     there are no more columns than a reading has places for
-use Prim.Native.Nat.{ℕ, ◌+◌, ◌*◌, ◌≤◌}
-use mathlib.Core.Path.{◌≡◌, refl, sym, ap, subst, ◌∙◌}
+use Prim.Native.Nat.{ℕ, ◌+◌, ◌≤◌}
+use mathlib.Core.Path.{◌≡◌, refl, sym, ap, ap₂, subst, ◌∙◌}
 use mathlib.Core.List.{List, [], ◌∷◌}
+use mathlib.Core.Option.{some-injective}
+use Rattle.std.specs.Prelude.{Result, Ok, Err}
 use native.Mathlib.Decide.{dec_le}
 use native.Mathlib.Omega.{arith}
 use lib.ListN.{length, drop, length-append, length-drop}
 use Rattle.kinds.specs.Decided.{both}
-use Rattle.kinds.specs.declared.Answer.{Answer}
-use Rattle.kinds.specs.declared.Answer.TheVariants.{Done, Refused}
+use Rattle.kinds.specs.declared.Refusal.{Refusal}
 use Rattle.kinds.specs.declared.Refusal.TheVariants.{Card}
-use Rattle.kinds.proofs.AnswerLaws.{said_same}
-use Rattle.kinds.proofs.FirstLaws.{first_take, first_skip, first_nil}
+use Rattle.kinds.proofs.FirstLaws.{first_take, first_skip, first_nil, none_some}
 use Rattle.text.specs.Decimal.{decimal}
 use Rattle.text.specs.Numbers.{ending, numbers_text, IsRow, Begins}
 use Rattle.text.proofs.DecimalLaws.{decimal_some}
 use Rattle.text.proofs.RowLaws.{row_next, row_rest, row_unique, row?}
-use Rattle.bits.specs.Padded.{padded_to}
-use Rattle.card.specs.Card.{longest, fewest_numbers, IsCard, Readable, numbers_on, columns_on, unreadable, most_columns, Reads}
-use Rattle.card.specs.declared.Reading.{Reading}
+use Rattle.card.specs.Card.{longest, fewest_numbers, IsCard, Readable, numbers_on, unreadable, Reads}
+use Rattle.card.specs.declared.Card.{Card as OrderCard}
 
-alike : {a a' : Answer} {n n' k k' m m' : ℕ} {C C' : List ℕ} → a ≡ a' → n ≡ n' → k ≡ k' → C ≡ C' → m ≡ m'
-    → ◌≡◌ {A = Reading} (record { answer = a; n = n; k = k; columns = C; count = m }) (record { answer = a'; n = n'; k = k'; columns = C'; count = m' })
-alike e f g h i = cc
+alike : (c e : OrderCard) → c.n ≡ e.n → c.k ≡ e.k → c.columns.items ≡ e.columns.items → c ≡ e
+alike c e n k items =
+    let card : ℕ → ℕ → List ℕ → OrderCard = λ n k items. record { n = n; k = k; columns = record { items = items } } in
+    ap₂ (λ (f : List ℕ → OrderCard) (items : List ℕ). f items) (ap₂ card n k) items
 
 pub two_places : (b : List ℕ) (at next : ℕ) {v : ℕ} → next ≤ length b → Begins (drop at b) v (drop next b) → at + 2 ≤ next
 two_places b at next {v} h g =
     omega (arith, ap length g.bytes, length-append (decimal v) (ending (drop next b) ∷ drop next b), decimal_some v, length-drop at b, length-drop next b)
-
-row_places : (ns : List ℕ) → 2 * length ns ≤ length (numbers_text ns)
-unfolding numbers_text
-row_places [] = omega arith
-row_places (x ∷ xs) = omega (arith, decimal_some x, length-append (decimal x) (ending (numbers_text xs) ∷ numbers_text xs), row_places xs)
 
 some_number : {b ns : List ℕ} → IsRow b ns → 1 ≤ length ns → (v : ℕ) × (rest : List ℕ) × Begins b v rest
 some_number {ns = []} r h = absurd (omega arith)
@@ -66,35 +60,23 @@ module _ {b : List ℕ} where
   no_card (yes card) not = absurd (not card)
   no_card (no _) not = refl
 
-  pub columns_few : (d : Dec (Readable b)) → length (columns_on d) ≤ most_columns
-  columns_few (yes (ns, is)) = omega (arith, is.short, ap length is.numbers.bytes, row_places ns, length-drop 2 ns)
-  columns_few (no _) = omega arith
-
-  pub reads_card : {n k count : ℕ} {C columns : List ℕ} → IsCard b (n ∷ k ∷ C) → columns ≡ padded_to most_columns C → count ≡ length C
-      → Reads b (record { answer = Done; n = n; k = k; columns = columns; count = count })
-  reads_card {n} {k} {C = C} is same many d = let e = is_card d is in record {
-    answer = sym (first_skip (unreadable d) [] (λ not. not (n ∷ k ∷ C, is)) ∙ first_nil);
-    n = rw e refl;
-    k = rw e refl;
-    columns = rw e same;
-    count = rw e many;
+  pub reads_card : {c : OrderCard} → IsCard b (c.n ∷ c.k ∷ c.columns.items) → Reads b (Ok c)
+  reads_card {c} is d = let e = is_card d is in record {
+    answer = sym (first_skip (unreadable d) [] (λ not. not (c.n ∷ c.k ∷ c.columns.items, is)) ∙ first_nil);
+    card = record { n = rw e refl; k = rw e refl; columns = rw e refl };
   }
 
-  pub reads_none : ¬ Readable b → Reads b (record { answer = Refused Card; n = 0; k = 0; columns = padded_to most_columns []; count = 0 })
-  reads_none not d = let e = no_card d not in record {
-    answer = sym (first_take (unreadable d) [] not);
-    n = rw e refl;
-    k = rw e refl;
-    columns = rw e refl;
-    count = rw e refl;
-  }
+  pub reads_none : ¬ Readable b → Reads b (Err Card)
+  reads_none not d = record { answer = sym (first_take (unreadable d) [] not); card = tt }
 
-  pub reads_unique : {r q : Reading} → Reads b r → Reads b q → r ≡ q
-  reads_unique {r} {q} reads also =
-      let s = reads (card? b) in
-      let t = also (card? b) in
-      alike (said_same r.answer q.answer (s.answer ∙ sym t.answer)) (s.n ∙ sym t.n) (s.k ∙ sym t.k) (s.columns ∙ sym t.columns)
-      (s.count ∙ sym t.count)
+  pub reads_unique : (r q : Result OrderCard Refusal) → Reads b r → Reads b q → r ≡ q
+  reads_unique (Ok c) (Ok e) reads also =
+      let s = (reads (card? b)).card in
+      let t = (also (card? b)).card in
+      ap Ok (alike c e (s.n ∙ sym t.n) (s.k ∙ sym t.k) (s.columns ∙ sym t.columns))
+  reads_unique (Ok c) (Err x) reads also = none_some ((reads (card? b)).answer ∙ sym (also (card? b)).answer)
+  reads_unique (Err x) (Ok c) reads also = none_some ((also (card? b)).answer ∙ sym (reads (card? b)).answer)
+  reads_unique (Err x) (Err y) reads also = ap Err (some-injective _ _ ((reads (card? b)).answer ∙ sym (also (card? b)).answer))
 
   pub card_first : {ns : List ℕ} → IsCard b ns → (v : ℕ) × (rest : List ℕ) × Begins b v rest
   card_first is = some_number is.numbers (omega (arith, is.enough))

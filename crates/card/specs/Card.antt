@@ -7,21 +7,21 @@
 --   numbers_on d        the numbers on the card; none where it is unreadable
 --   n_on d, k_on d, columns_on d      n, k and the columns
 --   unreadable d       15: order card unreadable
---   most_columns        a number takes a byte at least, and what ends it another; two of the numbers are n and k
---   ReadsAs d r        r says what the card says: 15 where it is unreadable; n, k, and the columns, with zeros after them
+--   IsOn d c           c is what the card says: n, k, and the columns
+--   ReadsAs d r        r says what the card says: 15 where it is unreadable, else n, k, and the columns
 --   Reads b r          what is read of the card b
 --   card_table e d beside           15, then 1 to 4, of the order on the card, where beside are the lengths that were lent, and what they should be
-use Rattle.std.specs.Prelude.{ℕ, ◌-◌, ◌/◌, ◌≤◌, ◌≡◌, List, [], ◌∷◌, length, get_or, drop}
+use Rattle.std.specs.Prelude.{ℕ, ◌≤◌, ◌≡◌, List, [], ◌∷◌, length, get_or, drop, Result, IfOk}
 use Rattle.kinds.specs.Edition.{Edition, Sized}
 use Rattle.kinds.specs.Decisions.{sized?}
 use Rattle.kinds.specs.First.{Reason, unless, first_of}
 use Rattle.kinds.specs.Refusal.{said}
+use Rattle.kinds.specs.declared.Refusal.{Refusal}
 use Rattle.kinds.specs.declared.Refusal.TheVariants.{Card}
 use Rattle.kinds.specs.Lengths.{Wanted}
 use Rattle.text.specs.Numbers.{IsRow}
 use Rattle.order.specs.Table.{order_table}
-use Rattle.bits.specs.Padded.{padded_to}
-use Rattle.card.specs.declared.Reading.{Reading}
+use Rattle.card.specs.declared.Card.{Card as OrderCard}
 
 abbrev pub longest : ℕ
 longest = 128
@@ -53,17 +53,16 @@ columns_on d = drop 2 (numbers_on d)
 abbrev pub unreadable : {b : List ℕ} → Dec (Readable b) → Reason
 unreadable {b} d = unless Card (Readable b) d
 
-abbrev pub most_columns : ℕ
-most_columns = longest / 2 - 2
+pub record IsOn {b : List ℕ} (d : Dec (Readable b)) (c : OrderCard) : Type 0 where
+  pub n : c.n ≡ n_on d
+  pub k : c.k ≡ k_on d
+  pub columns : c.columns.items ≡ columns_on d
 
-pub record ReadsAs {b : List ℕ} (d : Dec (Readable b)) (r : Reading) : Type 0 where
-  pub answer : said r.answer ≡ first_of (unreadable d ∷ [])
-  pub n : r.n ≡ n_on d
-  pub k : r.k ≡ k_on d
-  pub columns : r.columns ≡ padded_to most_columns (columns_on d)
-  pub count : r.count ≡ length (columns_on d)
+pub record ReadsAs {b : List ℕ} (d : Dec (Readable b)) (r : Result OrderCard Refusal) : Type 0 where
+  pub answer : said r ≡ first_of (unreadable d ∷ [])
+  pub card : IfOk r (IsOn d)
 
-abbrev pub Reads : List ℕ → Reading → Type 0
+abbrev pub Reads : List ℕ → Result OrderCard Refusal → Type 0
 Reads b r = (d : Dec (Readable b)) → ReadsAs d r
 
 abbrev pub card_table : {b : List ℕ} → Edition → Dec (Readable b) → List (ℕ × Wanted) → List Reason

@@ -12,7 +12,8 @@ use Rattle.kinds.specs.Edition.{Edition, Sized}
 use Rattle.span.specs.Scan.{rank}
 use Rattle.order.specs.Order.{Order}
 use Rattle.parts.specs.Parts.{rows_p1}
-use Rattle.sheet.specs.Sheet.{Stage, Side, read_side}
+use Rattle.sheet.specs.Sheet.{Side, read_side}
+use Rattle.sheet.specs.declared.Stage.{Stage}
 use Rattle.sheet.specs.Layout.{WellFormed}
 use Rattle.sheet.proofs.LayLaws.{Layable}
 use Rattle.promise.specs.Right.{Right}

@@ -30,7 +30,8 @@ use Rattle.order.specs.Order.{place, Order}
 use Rattle.parts.specs.Parts.{P1, P3}
 use Rattle.parts.proofs.PartLaws.{P1_linear, P1_into, P3_linear}
 use Rattle.order.proofs.OrderLaws.{order_bijection}
-use Rattle.sheet.specs.Sheet.{Stage, Side, write_side, read_side}
+use Rattle.sheet.specs.Sheet.{Side, write_side, read_side}
+use Rattle.sheet.specs.declared.Stage.{Stage}
 use Rattle.sheet.specs.Layout.{WellFormed}
 use Rattle.sheet.proofs.LayLaws.{sheet_length, sheet_write, sheet_read, sheet_formed, Layable}
 use Rattle.switches.specs.Cells.{bank_at, cell_at, cell_of, M, N}

@@ -23,7 +23,8 @@ use Rattle.span.specs.Scan.{kept_at, others, rank, units}
 use Rattle.span.specs.Rows.{taken_on}
 use Rattle.order.specs.Order.{place}
 use Rattle.parts.specs.Parts.{P1, rows_p1, rows_p3}
-use Rattle.sheet.specs.Sheet.{Stage, Side, read_side, sheet_of}
+use Rattle.sheet.specs.Sheet.{Side, read_side, sheet_of}
+use Rattle.sheet.specs.declared.Stage.{Stage}
 use Rattle.sheet.specs.Layout.{StageInRange, EachStage, WellFormed}
 use Rattle.switches.specs.Cells.{cell_of}
 use Rattle.switches.specs.Written.{side_for}

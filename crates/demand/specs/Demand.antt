@@ -4,10 +4,9 @@
 --   ThirdDemand e         "The inspector passes a well-formed sheet for an order exactly when, from a fresh start, over every series of frames and blank ticks and every content of the words, no two written words
 --                         and no two read words want one bank in a tick, no unread word is overwritten, no empty cell is read, and each word of a completed frame leaves at its due tick and place.
 --                         Every invertible order within the limits gets a planned sheet that passes, and no passed sheet for that order has fewer read stages."
-use Rattle.std.specs.Prelude.{ℕ, ◌≤◌, ◌≡◌, List, ◌↔◌, length}
+use Rattle.std.specs.Prelude.{ℕ, ◌≤◌, ◌≡◌, List, ◌↔◌, length, Result, Ok, IsOk}
+use Rattle.kinds.specs.declared.Refusal.{Refusal}
 use Rattle.kinds.specs.Edition.{Edition, Sized, sheet_places}
-use Rattle.kinds.specs.declared.Answer.{Answer}
-use Rattle.kinds.specs.declared.Answer.TheVariants.{Done}
 use Rattle.order.specs.Order.{Order}
 use Rattle.sheet.specs.Sheet.{read_side}
 use Rattle.sheet.specs.Layout.{WellFormed}
@@ -16,11 +15,11 @@ use Rattle.plan.specs.Tool.{Plans}
 use Rattle.inspect.specs.Tool.{Inspects}
 
 pub record DemandFor (e : Edition) (n k : ℕ) (C : List ℕ) : Type 0 where
-  pub verdict : (s : List ℕ) → (v : Answer) × Inspects e n k C s v
-  pub exact : (s : List ℕ) (v : Answer) → length s ≡ sheet_places e → WellFormed e n k s → Inspects e n k C s v → (v ≡ Done) ↔ Right e n k C s
-  pub gets : (lent : List ℕ) → length lent ≡ sheet_places e → (s : List ℕ) × Plans e n k C lent s Done × Inspects e n k C s Done
-  pub passes : (lent s : List ℕ) (r v : Answer) → length lent ≡ sheet_places e → Plans e n k C lent s r → Inspects e n k C s v → (r ≡ Done) × (v ≡ Done)
-  pub fewest : (lent s other : List ℕ) (r : Answer) → length lent ≡ sheet_places e → Plans e n k C lent s r → Inspects e n k C other Done
+  pub verdict : (s : List ℕ) → (v : Result Unit Refusal) × Inspects e n k C s v
+  pub exact : (s : List ℕ) (v : Result Unit Refusal) → length s ≡ sheet_places e → WellFormed e n k s → Inspects e n k C s v → IsOk v ↔ Right e n k C s
+  pub gets : (lent : List ℕ) → length lent ≡ sheet_places e → (s : List ℕ) × Plans e n k C lent s (Ok tt) × Inspects {A = Unit} e n k C s (Ok tt)
+  pub passes : (lent s : List ℕ) (r v : Result Unit Refusal) → length lent ≡ sheet_places e → Plans e n k C lent s r → Inspects e n k C s v → IsOk r × IsOk v
+  pub fewest : (lent s other : List ℕ) (r : Result Unit Refusal) → length lent ≡ sheet_places e → Plans e n k C lent s r → Inspects {A = Unit} e n k C other (Ok tt)
       → length (read_side e n k s).stages ≤ length (read_side e n k other).stages
 
 abbrev pub ThirdDemand : Edition → Type 0

@@ -4,17 +4,18 @@
 --   first_pair_law         where there is a clash, the ports that a refusal names are the first such pair
 --   pair_clash             where there is a first such pair, there is a clash
 --   first_pair_named       and its ports are those that a refusal names
---   pair_nowhere           the first pair is nowhere exactly when there is no clash
---   pair_between           it is between two ports exactly when they are the first such pair
+--   pair_none              there is no first pair exactly when there is no clash
+--   pair_some              there is one, of two ports, exactly when they are the first such pair
 --   ports_none, ports_two  so it gives no ports, or the numbers of those two
 --   pair_counted           where there are no more cells than ports have numbers, it is what `first_pair` answers
 use Prim.Native.Nat.{ℕ, ◌<◌, ◌≤◌}
-use mathlib.Core.Path.{◌≡◌, refl, sym, ap}
+use mathlib.Core.Path.{◌≡◌, refl, ap}
 use mathlib.Core.List.{List, [], ◌∷◌}
 use mathlib.Core.Logic.{◌≢◌, ◌↔◌}
 use native.Mathlib.Decide.{dec_le}
 use native.Mathlib.Omega.{arith}
 use lib.ListN.{length, get_or}
+use Rattle.std.specs.Prelude.{None, Some}
 use Rattle.kinds.specs.Answers.{if_holds}
 use Rattle.kinds.specs.Frame.{bank_of}
 use Rattle.kinds.specs.Decided.{some_below}
@@ -25,7 +26,6 @@ use Rattle.kinds.proofs.SearchLaws.{found_has, found_first, found_least}
 use Rattle.faults.specs.Faults.{LowestPair, Clash, most_cells}
 use Rattle.faults.specs.Decisions.{want_one_bank?, later_wants?, clash?}
 use Rattle.faults.specs.Table.{first_port, second_port, pair_from, first_pair_of, ports_of}
-use Rattle.faults.specs.declared.Pair.TheVariants.{Nowhere, Between}
 
 not_above : {P : ℕ → Type 0} (P? : (i : ℕ) → Dec (P i)) (n i : ℕ) → P i → found (some_below P? n) ≤ i
 not_above P? n i p = let high : ¬ (i < found (some_below P? n)) = λ low. found_first P? n i low p in omega arith
@@ -63,33 +63,31 @@ module _ {k : ℕ} {cs : List ℕ} where
           found_least (want_one_bank? k cs p) (length cs) q first_of.inside first_of.one_bank (λ j l w. omega (arith, first_of.second j (omega arith) w))),
     )
 
-no_pair : {A : Type 0} {p q : Port} → Nowhere ≡ Between p q → A
-no_pair e = absurd (let z : ◌≡◌ {A = ℕ} 0 1 = cc in omega arith)
-
 module _ (k : ℕ) (cs : List ℕ) where
-  nowhere : (d : Dec (Clash k cs)) → pair_from k cs d ≡ Nowhere ↔ ¬ Clash k cs
-  nowhere (yes c) = (λ e. no_pair (sym e), λ n. absurd (n c))
-  nowhere (no n) = (λ e. n, λ _. refl)
+  none_from : (d : Dec (Clash k cs)) → pair_from k cs d ≡ None ↔ ¬ Clash k cs
+  none_from (yes c) = (λ e. cc, λ n. absurd (n c))
+  none_from (no n) = (λ e. n, λ _. refl)
 
-  pub pair_nowhere : first_pair_of k cs ≡ Nowhere ↔ ¬ Clash k cs
-  pair_nowhere = nowhere (clash? k cs)
+  pub pair_none : first_pair_of k cs ≡ None ↔ ¬ Clash k cs
+  pair_none = none_from (clash? k cs)
 
   module _ (p q : Port) where
-    between : (d : Dec (Clash k cs)) → pair_from k cs d ≡ Between p q ↔ LowestPair k cs p.0 q.0
-    between (yes c) = (
-      λ e. let first : first_port k cs ≡ p.0 = cc in let second : second_port k cs ≡ q.0 = cc in rw (← first, ← second) (first_pair_law c),
+    some_from : (d : Dec (Clash k cs)) → pair_from k cs d ≡ Some (p, q) ↔ LowestPair k cs p.0 q.0
+    some_from (yes c) = (
+      λ e. let pair : ◌≡◌ {A = Port × Port} (record { 0 = first_port k cs }, record { 0 = second_port k cs }) (p, q) = cc in
+          rw (← ap (λ (x : Port × Port). x.0.0) pair, ← ap (λ (x : Port × Port). x.1.0) pair) (first_pair_law c),
       λ first_of. let (first, second) = first_pair_named first_of in rw (second, first),
     )
-    between (no n) = (λ e. no_pair e, λ first_of. absurd (n (pair_clash first_of)))
+    some_from (no n) = (λ e. cc, λ first_of. absurd (n (pair_clash first_of)))
 
-    pub pair_between : first_pair_of k cs ≡ Between p q ↔ LowestPair k cs p.0 q.0
-    pair_between = between (clash? k cs)
+    pub pair_some : first_pair_of k cs ≡ Some (p, q) ↔ LowestPair k cs p.0 q.0
+    pair_some = some_from (clash? k cs)
 
   pub ports_none : ¬ Clash k cs → ports_of (first_pair_of k cs) ≡ []
-  ports_none apart = ap ports_of (pair_nowhere.1 apart)
+  ports_none apart = ap ports_of (pair_none.1 apart)
 
   pub ports_two : {p q : ℕ} → LowestPair k cs p q → ports_of (first_pair_of k cs) ≡ p ∷ q ∷ []
-  ports_two pair = ap ports_of ((pair_between _ _).1 pair)
+  ports_two pair = ap ports_of ((pair_some _ _).1 pair)
 
-  pub pair_counted : length cs ≤ most_cells → if_holds (dec_le (length cs) most_cells) (first_pair_of k cs) Nowhere ≡ first_pair_of k cs
+  pub pair_counted : length cs ≤ most_cells → if_holds (dec_le (length cs) most_cells) (first_pair_of k cs) None ≡ first_pair_of k cs
   pair_counted = holds_yes (dec_le (length cs) most_cells) _ _

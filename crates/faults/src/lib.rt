@@ -1,7 +1,7 @@
 // When a call must not go on: 11 to 14, for any cells that it writes and reads.
 #![tactic(auto)]
 
-ghost use Rattle.std.specs.Prelude.{◌≡◌, cond, ◌^◌, ◌≤◌, length};
+ghost use Rattle.std.specs.Prelude.{◌≡◌, ◌^◌, ◌≤◌, length, None};
 ghost use Rattle.std.proofs.Math.Decide.{dec_le};
 ghost use Rattle.kinds.specs.Answers.{Says, if_holds};
 ghost use Rattle.kinds.specs.First.{first_of};
@@ -10,74 +10,51 @@ ghost use Rattle.faults.specs.Marks.{Filled, with_marks};
 ghost use Rattle.faults.specs.Faults.{Clash, most_cells, SomeMarked};
 ghost use Rattle.faults.specs.Table.{first_pair_of, fault_table};
 ghost use Rattle.faults.specs.Inside.{most_banks, BankBits};
-ghost use Rattle.faults.specs.declared.Pair.TheVariants.{Nowhere};
 
-use kinds::{Answer, Bank, Port, Refusal};
+use kinds::{Bank, Port, Refusal};
 
 // The most cells whose ports have numbers of 32 bits.
-const CELLS: usize = 4294967296;
+const CELLS: usize = 1 << 32;
 
 // The most bits of a bank's number for which a number of 64 bits has a bit for each bank.
 const SMALL: u32 = 6;
 
-// 11 to 14, of the cells that are written and of those that are read, by port. 12 is judged on the marks as they came or, where `after` says so, as this call's read leaves them.
+// 11 to 14, of the cells that are written and of those that are read, by port. 12 is judged on the marks as they came or, where `after` says so, as this call's read leaves them: it is a word of the table that is promised (`fault_table`).
 // 2 where there are more cells than ports have numbers.
-pub fn first_fault(after: bool, k: u32, writes: &[u32], reads: &[u32], marks: &[u8]) -> Answer
+pub fn first_fault(
+    after: bool,
+    k: u32,
+    writes: &[u32],
+    reads: &[u32],
+    marks: &[u8],
+) -> Result<(), Refusal>
     ensures { said result ≡ first_of (fault_table after k writes.now reads.now marks.now) }
 {
-    if CELLS < writes.len() {
-        return Answer::Refused(Refusal::Length);
+    if CELLS < writes.len() || CELLS < reads.len() {
+        return Err(Refusal::Length);
     }
-    if CELLS < reads.len() {
-        return Answer::Refused(Refusal::Length);
+    if let Some((first, second)) = first_pair(k, writes) {
+        return Err(Refusal::WriteClash(first, second));
     }
-    let write_pair = first_pair(k, writes);
-    if let Pair::Between(p, q) = write_pair {
-        return Answer::Refused(Refusal::WriteClash(p, q));
+    let freed: &[u32] = if after { reads } else { &[] };
+    if some_cell(writes, freed, marks, true) {
+        return Err(Refusal::Overwrite);
     }
-    let freed = cells_freed(after, reads.len());
-    if some_cell(writes, &reads[0..freed], marks, true) {
-        return Answer::Refused(Refusal::Overwrite);
+    if let Some((first, second)) = first_pair(k, reads) {
+        return Err(Refusal::ReadClash(first, second));
     }
-    let read_pair = first_pair(k, reads);
-    if let Pair::Between(p, q) = read_pair {
-        return Answer::Refused(Refusal::ReadClash(p, q));
+    if some_cell(reads, &[], marks, false) {
+        return Err(Refusal::EmptyRead);
     }
-    if some_cell(reads, &reads[0..0], marks, false) {
-        return Answer::Refused(Refusal::EmptyRead);
-    }
-    Answer::Done
+    Ok(())
 }
 
-// How many of the cells that are read count as empty when 12 is judged.
-fn cells_freed(after: bool, reads: usize) -> usize
-    ensures { result ≡ cond after reads 0 }
+// The first two ports whose cells are of one bank. Where the banks are few one pass says whether there is a pair, and it is searched for only where there is one. None where there are more cells than ports have numbers.
+pub fn first_pair(k: u32, cells: &[u32]) -> Option<(Port, Port)>
+    ensures { result ≡ if_holds (dec_le (length cells.now) most_cells) (first_pair_of k cells.now) None }
 {
-    if after {
-        return reads;
-    }
-    0
-}
-
-// The first two ports whose cells are of one bank.
-#[derive(Clone, Copy)]
-pub enum Pair {
-    Nowhere,
-    Between(Port, Port),
-}
-
-// Where the banks are few one pass says whether there is a pair, and it is searched for only where there is one. Nowhere where there are more cells than ports have numbers.
-pub fn first_pair(k: u32, cells: &[u32]) -> Pair
-    ensures { result ≡ if_holds (dec_le (length cells.now) most_cells) (first_pair_of k cells.now) Nowhere }
-{
-    if CELLS < cells.len() {
-        return Pair::Nowhere;
-    }
-    if SMALL < k {
-        return find_pair(k, cells);
-    }
-    if banks_differ(k, cells) {
-        return Pair::Nowhere;
+    if CELLS < cells.len() || k <= SMALL && banks_differ(k, cells) {
+        return None;
     }
     find_pair(k, cells)
 }
@@ -89,38 +66,31 @@ fn banks_differ(k: u32, cells: &[u32]) -> bool
 {
     let mask = bank_bits(k);
     let mut seen: u64 = 0;
-    let mut p = 0;
-    while p < cells.len() {
-        let bank = Bank(cells[p] & mask);
+    for cell in cells {
+        let bank = Bank(*cell & mask);
         if (seen >> bank.0) % 2 == 1 {
             return false;
         }
-        seen = seen ^ (1 << bank.0);
-        p += 1;
+        seen ^= 1 << bank.0;
     }
     true
 }
 
 // "Two nested loops over ports, left by a label when two banks are equal" (01).
-fn find_pair(k: u32, cells: &[u32]) -> Pair
+fn find_pair(k: u32, cells: &[u32]) -> Option<(Port, Port)>
     requires { length cells.now ≤ most_cells }
     ensures { result ≡ first_pair_of k cells.now }
 {
     let mask = bank_bits(k);
-    let mut pair = Pair::Nowhere;
-    let mut p = 0;
-    'ports: while p < cells.len() {
-        let bank = Bank(cells[p] & mask);
-        let mut q = p + 1;
-        while q < cells.len() {
-            let later = Bank(cells[q] & mask);
-            if bank.0 == later.0 {
-                pair = Pair::Between(Port(p as u32), Port(q as u32));
+    let mut pair = None;
+    'ports: for (p, cell) in cells.iter().enumerate() {
+        let bank = Bank(*cell & mask);
+        for q in p + 1..cells.len() {
+            if Bank(cells[q] & mask) == bank {
+                pair = Some((Port(p as u32), Port(q as u32)));
                 break 'ports;
             }
-            q += 1;
         }
-        p += 1;
     }
     pair
 }
@@ -130,7 +100,7 @@ fn bank_bits(k: u32) -> u32
     ensures { BankBits k result }
 {
     if 32 <= k {
-        return 4294967295;
+        return u32::MAX;
     }
     bits::two_to(k) - 1
 }
@@ -139,14 +109,9 @@ fn bank_bits(k: u32) -> u32
 pub fn some_cell(cells: &[u32], freed: &[u32], marks: &[u8], filled: bool) -> bool
     ensures { Says result (SomeMarked filled (with_marks 0 freed.now marks.now) cells.now) }
 {
-    let mut p = 0;
-    while p < cells.len() {
-        if is_filled(cells[p], freed, marks) == filled {
-            return true;
-        }
-        p += 1;
-    }
-    false
+    cells
+        .iter()
+        .any(|cell| is_filled(*cell, freed, marks) == filled)
 }
 
 // Whether a cell is filled that was not freed. A cell beyond the memory is empty.
@@ -154,18 +119,6 @@ fn is_filled(cell: u32, freed: &[u32], marks: &[u8]) -> bool
     ensures { Says result (Filled (with_marks 0 freed.now marks.now) cell) }
 {
     let at = cell as usize;
-    if marks.len() <= at {
-        return false;
-    }
-    if marks[at] == 0 {
-        return false;
-    }
-    let mut q = 0;
-    while q < freed.len() {
-        if freed[q] == cell {
-            return false;
-        }
-        q += 1;
-    }
-    true
+    let marked = at < marks.len() && marks[at] != 0;
+    marked && !freed.contains(&cell)
 }

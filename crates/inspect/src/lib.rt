@@ -5,82 +5,65 @@ ghost use Rattle.kinds.specs.Edition.{edition1};
 ghost use Rattle.inspect.specs.Tool.{Inspects, OpensPassed};
 ghost use Rattle.inspect.specs.Inside.{Comparable, Agrees, Judgeable, Judges};
 
-use kinds::{Answer, Refusal};
-use maps::{OpenSide, Opened};
+use kinds::{Refusal, Sizes};
+use maps::{OpenSide, Sides};
 
 // Passed, or the lowest of 1 to 9 that applies.
-pub fn inspect(n: u32, k: u32, columns: &[u16], sheet: &[u16]) -> Answer
+pub fn inspect(n: u32, k: u32, columns: &[u16], sheet: &[u16]) -> Result<(), Refusal>
     ensures { Inspects edition1 n k columns.now sheet.now result }
 {
-    let opened = open_passed(n, k, columns, sheet);
-    opened.answer
+    open_passed(n, k, columns, sheet)?;
+    Ok(())
 }
 
 // The inspector, which hands on the sides of a sheet that it passed.
-pub fn open_passed(n: u32, k: u32, columns: &[u16], sheet: &[u16]) -> Opened
+pub fn open_passed(n: u32, k: u32, columns: &[u16], sheet: &[u16]) -> Result<Sides, Refusal>
     ensures { OpensPassed edition1 n k columns.now sheet.now result }
 {
     let fits = sheet.len() == sheet::SHEET;
-    let checked = order::check_with_k(n, k, columns, fits);
-    if let Answer::Refused(refusal) = checked {
-        return maps::refused(refusal);
-    }
-    let opened = maps::open(n, k, sheet, true);
-    let answer = opened.answer;
-    let is_formed = kinds::is_done(answer);
-    if !is_formed {
-        return opened;
-    }
-    let verdict = judge(n, k, columns, opened.write, opened.read);
-    if let Answer::Refused(refusal) = verdict {
-        return maps::refused(refusal);
-    }
-    opened
+    let sizes = order::check_with_k(n, k, columns, fits)?;
+    let sides = maps::open(n, k, sheet, true)?;
+    judge(sizes, columns, &sides)?;
+    Ok(sides)
 }
 
 // 6 to 9. A linear map of m bits is invertible exactly when its m columns are independent.
-fn judge(n: u32, k: u32, columns: &[u16], write: OpenSide, read: OpenSide) -> Answer
-    requires { Judgeable n k columns.now }
-    ensures { Judges n k columns.now write read result }
+fn judge(sizes: Sizes, columns: &[u16], sides: &Sides) -> Result<(), Refusal>
+    requires { Judgeable sizes.n columns.now }
+    ensures { Judges sizes.n sizes.k columns.now sides.now.write sides.now.read result }
 {
-    let port_bits = k as usize;
-    let word_bits = n as usize;
-    let write_wiring = write.wiring();
-    let read_wiring = read.wiring();
-    let cells = write.columns();
-    let write_wired = span::independent(&write_wiring[0..port_bits]);
-    let read_wired = span::independent(&read_wiring[0..port_bits]);
-    let own_cells = span::independent(&cells[0..word_bits]);
-    let in_order = agree(n, k, columns, &cells, read);
-    if !write_wired {
-        return Answer::Refused(Refusal::WriteWiring);
+    let port_bits = sizes.k as usize;
+    let word_bits = sizes.n as usize;
+    let write_wiring = sides.write.wiring();
+    if !span::independent(&write_wiring[..port_bits]) {
+        return Err(Refusal::WriteWiring);
     }
-    if !read_wired {
-        return Answer::Refused(Refusal::ReadWiring);
+    let read_wiring = sides.read.wiring();
+    if !span::independent(&read_wiring[..port_bits]) {
+        return Err(Refusal::ReadWiring);
     }
+    let cells = sides.write.columns();
+    let own_cells = span::independent(&cells[..word_bits]);
+    let in_order = agree(sizes.k, columns, &cells[..word_bits], &sides.read);
     if !own_cells {
-        return Answer::Refused(Refusal::SharedCell);
+        return Err(Refusal::SharedCell);
     }
     if !in_order {
-        return Answer::Refused(Refusal::Differs);
+        return Err(Refusal::Differs);
     }
-    Answer::Done
+    Ok(())
 }
 
 // Whether M, of which the columns are lent, is N P. Both are linear, so the words 2^j tell: word 2^j leaves at place `columns[j]`, which has a tick and a port.
-fn agree(n: u32, k: u32, columns: &[u16], cells: &[u16], read: OpenSide) -> bool
-    requires { Comparable n k columns.now cells.now }
-    ensures { Agrees n k columns.now cells.now read result }
+fn agree(k: u32, columns: &[u16], cells: &[u16], read: &OpenSide) -> bool
+    requires { Comparable k columns.now cells.now }
+    ensures { Agrees k columns.now cells.now read.now result }
 {
-    let word_bits = n as usize;
-    let mut j = 0;
-    while j < word_bits {
-        let slot = switches::slot_of(columns[j] as u32, k);
-        let cell = read.cell(slot.tick, slot.port);
-        if cells[j] != cell {
+    for (j, column) in columns.iter().enumerate() {
+        let slot = switches::slot_of(u32::from(*column), k);
+        if read.cell(slot) != cells[j] {
             return false;
         }
-        j += 1;
     }
     true
 }

@@ -6,18 +6,17 @@
 --                          where that is none, D holds, what the tool is to answer or to leave; on a refusal K, everything lent is as it came
 --   over_front l out        the lent buffer out after the numbers l went there, from its first place on; it is long enough for them
 --   if_holds d x y          x where the statement that d decides holds, else y
-use Rattle.std.specs.Prelude.{ℕ, ◌≡◌, Bool, true, List, ◌++◌, ◌↔◌, length, drop}
+use Rattle.std.specs.Prelude.{ℕ, ◌≡◌, Bool, true, List, ◌++◌, ◌↔◌, length, drop, Result}
 use Rattle.std.proofs.Math.Option.{Option, none, some}
 use Rattle.kinds.specs.Refusal.{said}
 use Rattle.kinds.specs.First.{Reason, first_of}
 use Rattle.kinds.specs.Lengths.{Wanted, RightLengths}
-use Rattle.kinds.specs.declared.Answer.{Answer}
 use Rattle.kinds.specs.declared.Refusal.{Refusal}
 
 abbrev pub Says : Bool → Type 0 → Type 0
 Says b A = (b ≡ true) ↔ A
 
-abbrev pub Checks : (List (ℕ × Wanted) → List Reason) → Bool → Answer → Type 0
+abbrev pub Checks : {A : Type 0} → (List (ℕ × Wanted) → List Reason) → Bool → Result A Refusal → Type 0
 Checks t fits r = (beside : List (ℕ × Wanted)) → Says fits (RightLengths beside) → said r ≡ first_of (t beside)
 
 pub record Answers (t : List Reason) (o : Option Refusal) (D K : Type 0) : Type 0 where

@@ -9,3 +9,4 @@ pub mod Refusal
 pub mod First
 pub mod Reasons
 pub mod Answers
+pub mod Sizes

@@ -1,12 +1,10 @@
 -- What each refusal says, as 01's table 'When a tool says no' has it.
 --   number_of r       its number
 --   values_of r       the numbers that it carries: the column and the mask of 4 (02, R-8), the two ports of 11 and 13, else none
---   said a           the refusal that an answer gives; none where it says done
+--   said a           the refusal that an answer gives; none where it is done
 --   given o          the number of the refusal o; 0 where there is none
-use Rattle.std.specs.Prelude.{ℕ, List, [], ◌∷◌}
+use Rattle.std.specs.Prelude.{ℕ, List, [], ◌∷◌, Result, Ok, Err}
 use Rattle.std.proofs.Math.Option.{Option, none, some}
-use Rattle.kinds.specs.declared.Answer.{Answer}
-use Rattle.kinds.specs.declared.Answer.TheVariants.{Done, Refused}
 use Rattle.kinds.specs.declared.Refusal.{Refusal}
 use Rattle.kinds.specs.declared.Refusal.TheVariants.{Sizes, Length, TooLarge, Dependent, Layout, WriteWiring, ReadWiring, SharedCell, Differs, State, WriteClash, Overwrite, ReadClash, EmptyRead, Card}
 
@@ -44,9 +42,9 @@ values_of (ReadClash p q) = p.0 ∷ q.0 ∷ []
 values_of EmptyRead = []
 values_of Card = []
 
-abbrev pub said : Answer → Option Refusal
-said Done = none
-said (Refused r) = some r
+abbrev pub said : {A : Type 0} → Result A Refusal → Option Refusal
+said (Ok x) = none
+said (Err r) = some r
 
 abbrev pub given : Option Refusal → ℕ
 given none = 0

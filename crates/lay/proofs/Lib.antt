@@ -1,3 +1,3 @@
--- Laws of stages that are paired, and of stages that are handed on.
+-- Laws of stages that are paired, and of sides that are laid out.
 pub mod PairLaws
 pub mod StagedLaws

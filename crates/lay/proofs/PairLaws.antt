@@ -2,19 +2,17 @@
 --   pairs_parts     their directions and controls are those
 --   pairs_length    there are as many stages
 --   pairs_least     where there are more of one, as many as of the other
---   pairs_at        stage s has direction s and control s
 --   pairs_range     units of port bits and of tick bits make stages in range
 --   pairs_selected  what the stages make of a tick: the sum of the directions that its controls select
-use Prim.Native.Nat.{ℕ, zero, suc, ◌<◌, ◌^◌, min}
+use Prim.Native.Nat.{ℕ, suc, ◌^◌, min}
 use mathlib.Core.Path.{◌≡◌, refl, sym, ap, ap₂, ◌∙◌}
 use mathlib.Core.List.{List, [], ◌∷◌}
 use native.Mathlib.Omega.{arith}
-use lib.ListN.{length, get_or, length-map}
+use lib.ListN.{length, length-map}
 use lib.Pow.{pow_pos, pow-lt}
 use Rattle.bits.specs.Image.{image, AllBelow}
 use Rattle.span.specs.Scan.{units}
 use Rattle.span.specs.Rows.{dots}
-use Rattle.sheet.specs.Sheet.{Stage}
 use Rattle.sheet.specs.Layout.{StageInRange, EachStage}
 use Rattle.switches.proofs.StageLaws.{directions, controls, selected}
 use Rattle.lay.specs.Staged.{pairs}
@@ -35,13 +33,6 @@ unfolding pairs
 pairs_least [] cs = omega arith
 pairs_least (d ∷ ds) [] = omega arith
 pairs_least (d ∷ ds) (c ∷ cs) = omega (arith, pairs_least ds cs)
-
-pub pairs_at : (ds cs : List ℕ) (s : ℕ) (z : Stage) → s < length ds → s < length cs → get_or (pairs ds cs) s z ≡ record { direction = get_or ds s 0; control = get_or cs s 0 }
-unfolding pairs
-pairs_at [] cs s z h l = absurd (omega arith)
-pairs_at (d ∷ ds) [] s z h l = absurd (omega arith)
-pairs_at (d ∷ ds) (c ∷ cs) zero z h l = refl
-pairs_at (d ∷ ds) (c ∷ cs) (suc s) z h l = pairs_at ds cs s z (omega arith) (omega arith)
 
 pub pairs_range : (k t : ℕ) (is js : List ℕ) → AllBelow k is → AllBelow t js → EachStage (StageInRange (2 ^ k) (2 ^ t)) (pairs (units is) (units js))
 unfolding pairs

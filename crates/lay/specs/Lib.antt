@@ -1,2 +1,2 @@
--- Stages that are handed on, and sides that are laid out.
+-- Stages that are paired, and sides that are laid out.
 pub mod Staged

@@ -15,7 +15,8 @@ use Rattle.kinds.proofs.FirstLaws.{first_none}
 use Rattle.state.specs.States.{Possible}
 use Rattle.state.specs.Decisions.{possible?}
 use Rattle.state.specs.declared.State.{State}
-use Rattle.lent.specs.Lent.{Lengths, run_lengths, call_table}
+use Rattle.lent.specs.Lent.{run_lengths, call_table}
+use Rattle.lent.specs.declared.Lengths.{Lengths}
 
 module _ (e : Edition) (n k : ℕ) (st : State) (l : Lengths) where
   pub record SoundCall : Type 0 where

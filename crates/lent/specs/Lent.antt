@@ -1,6 +1,5 @@
 -- What a call is lent, and when it is refused before its cells are looked at (01, 'When a tool says no': 1, 2 and 10).
 --   Lent                   what a call is lent: the state, the words that came, the memory and the out buffer
---   Lengths                the lengths that are lent: of the words that came, of the out buffer, and of the words and the marks of the memory
 --   lengths_of b            those of what is lent
 --   run_lengths n k l       the lengths l, and what is wanted of each: "tick 2^k or 0, tick out 2^k, words and marks 2^(n+1)"
 --   call_table e n k st l   1, 2 and 10, where the state st is lent and the lengths are l
@@ -14,18 +13,13 @@ use Rattle.kinds.specs.Lengths.{Wanted, exactly, or_none}
 use Rattle.state.specs.Table.{impossible}
 use Rattle.state.specs.declared.State.{State}
 use Rattle.memory.specs.Memory.{Memory}
+use Rattle.lent.specs.declared.Lengths.{Lengths}
 
 pub record Lent : Type 0 where
   pub state : State
   pub came : List ℕ
   pub memory : Memory
   pub out : List ℕ
-
-pub record Lengths : Type 0 where
-  pub came : ℕ
-  pub out : ℕ
-  pub words : ℕ
-  pub marks : ℕ
 
 abbrev pub lengths_of : Lent → Lengths
 lengths_of b = record { came = length b.came; out = length b.out; words = length b.memory.words; marks = length b.memory.marks }

@@ -1,5 +1,4 @@
 -- A text that is written into a buffer, part by part.
---   puts_no                where there is no room, nothing is written
 --   puts_yes               where there is, all of it
 --   puts_unique            there is one text afterwards, and one answer
 --   writes_none            nothing is written
@@ -18,9 +17,6 @@ use native.Mathlib.Omega.{arith}
 use lib.ListN.{length, set, length-append}
 use lib.Seq.{sets, length-sets}
 use Rattle.lines.specs.Written.{RoomFor, Writes, Puts}
-
-pub puts_no : {w : List ℕ} {at : ℕ} {x : List ℕ} → ¬ RoomFor w at x → Puts w at x x at
-puts_no no_room = record { written = λ fits. absurd (no_room fits); refused = λ _. (refl, refl) }
 
 pub puts_yes : {w : List ℕ} {at : ℕ} {x x' : List ℕ} {r : ℕ} → RoomFor w at x → Writes w at x x' r → Puts w at x x' r
 puts_yes fits wrote = record { written = λ _. wrote; refused = λ no_room. absurd (no_room fits) }

@@ -1,4 +1,5 @@
-// Text that is written into a buffer: bytes, numbers in decimal, and lines of them. Where there is no room for all of it, nothing is written, and the answer is the place that was given.
+// Text that is written into a buffer: bytes, numbers in decimal, and lines of them. Where there is no room for all of it, nothing is written, and the answer is the place that was given: a place and no Option, so that a caller goes on from it either way.
+// A text and a place in it are no struct: whatever took one with a `&mut` in it would have to promise besides that it still points to the same text. And numbers are not printed by `write!`, which writes what there is room for and then fails.
 #![tactic(auto)]
 
 ghost use Rattle.std.specs.Prelude.{◌≡◌, ◌+◌, ◌≤◌, length};
@@ -15,23 +16,18 @@ const MOST_SPACED: usize = MOST_DIGITS + 1;
 pub fn put_bytes(text: &mut [u8], at: usize, bytes: &[u8]) -> usize
     ensures { Puts bytes.now at text.old text.new result }
 {
-    let fits = has_room(text.len(), at, bytes.len());
-    if !fits {
+    if !has_room(text.len(), at, bytes.len()) {
         return at;
     }
-    let mut i = 0;
-    while i < bytes.len() {
-        text[at + i] = bytes[i];
-        i += 1;
-    }
-    at + i
+    let end = at + bytes.len();
+    text[at..end].copy_from_slice(bytes);
+    end
 }
 
 pub fn put_number(text: &mut [u8], at: usize, number: u32) -> usize
     ensures { Puts (decimal number) at text.old text.new result }
 {
-    let fits = number_fits(text.len(), at, number);
-    if !fits {
+    if !number_fits(text.len(), at, number) {
         return at;
     }
     put_digits(text, at, number)
@@ -41,8 +37,7 @@ pub fn put_number(text: &mut [u8], at: usize, number: u32) -> usize
 pub fn put_line(text: &mut [u8], at: usize, name: &[u8], numbers: &[u32]) -> usize
     ensures { Puts (line name.now numbers.now) at text.old text.new result }
 {
-    let fits = line_fits(text.len(), at, name.len(), numbers);
-    if !fits {
+    if !line_fits(text.len(), at, name.len(), numbers) {
         return at;
     }
     let end = put_bytes(text, at, name);
@@ -53,46 +48,33 @@ pub fn put_line(text: &mut [u8], at: usize, name: &[u8], numbers: &[u32]) -> usi
 fn has_room(places: usize, at: usize, bytes: usize) -> bool
     ensures { Says result (at + bytes ≤ places) }
 {
-    if places < at {
-        return false;
-    }
-    bytes <= places - at
+    at <= places && bytes <= places - at
 }
 
 // Whether a number has. Its digits are counted only where there is little room.
 fn number_fits(places: usize, at: usize, number: u32) -> bool
     ensures { Says result (at + length (decimal number) ≤ places) }
 {
-    let plenty = has_room(places, at, MOST_DIGITS);
-    if plenty {
-        return true;
-    }
-    let digits = width(number);
-    has_room(places, at, digits)
+    has_room(places, at, MOST_DIGITS) || has_room(places, at, width(number))
 }
 
 // Whether a line has, where its name has so many bytes. The same goes for its numbers.
 fn line_fits(places: usize, at: usize, name: usize, numbers: &[u32]) -> bool
     ensures { Says result (at + (name + length (line_end numbers.now)) ≤ places) }
 {
-    let named = has_room(places, at, name);
-    if !named {
+    if !has_room(places, at, name) {
         return false;
     }
     let mut end = at + name;
     if numbers.len() < (places - end) / MOST_SPACED {
         return true;
     }
-    let mut i = 0;
-    while i < numbers.len() {
-        let number = numbers[i];
-        let spaced = 1 + width(number);
-        let fits = has_room(places, end, spaced);
-        if !fits {
+    for number in numbers {
+        let spaced = 1 + width(*number);
+        if !has_room(places, end, spaced) {
             return false;
         }
         end += spaced;
-        i += 1;
     }
     end < places
 }
@@ -116,12 +98,9 @@ fn put_numbers(text: &mut [u8], at: usize, numbers: &[u32]) -> usize
     ensures { Writes (line_end numbers.now) at text.old text.new result }
 {
     let mut place = at;
-    let mut i = 0;
-    while i < numbers.len() {
+    for number in numbers {
         text[place] = b' ';
-        let number = numbers[i];
-        place = put_digits(text, place + 1, number);
-        i += 1;
+        place = put_digits(text, place + 1, *number);
     }
     text[place] = b'\n';
     place + 1

@@ -9,42 +9,34 @@
 use Prim.Native.Nat.{ℕ, zero, suc, ◌+◌, ◌-◌, ◌^◌, ◌<◌, ◌≤◌}
 use mathlib.Core.Path.{◌≡◌, refl, sym, ap, ◌∙◌}
 use mathlib.Core.List.{List, [], ◌∷◌, ◌++◌}
+use Rattle.std.specs.Prelude.{Ok}
 use native.Mathlib.Omega.{arith}
-use lib.ListN.{length, get_or, take, drop, set, length-append}
+use lib.ListN.{length, get_or, drop, set, length-append}
 use lib.Seq.{sets-eq}
 use Rattle.kinds.specs.Edition.{edition1, Sized}
 use Rattle.kinds.specs.Decisions.{sized?}
 use Rattle.kinds.specs.First.{first_of}
 use Rattle.kinds.specs.Lengths.{Wanted, RightLengths}
-use Rattle.kinds.specs.Refusal.{said}
-use Rattle.kinds.specs.declared.Answer.TheVariants.{Done}
 use Rattle.kinds.proofs.FirstLaws.{first_none, first_skip, first_alike}
 use Rattle.order.specs.Table.{order_table}
 use Rattle.kinds.specs.Answers.{over_front}
-use Rattle.bits.proofs.PaddedLaws.{padded_part}
-use Rattle.card.specs.Card.{most_columns, Readable, columns_on, unreadable, ReadsAs, card_table}
+use Rattle.card.specs.Card.{Readable, unreadable, ReadsAs, card_table}
 use Rattle.lines.specs.Line.{line_end, line}
 use Rattle.lines.specs.Written.{RoomFor, Writes}
 use Rattle.lines.proofs.LineLaws.{ending_length}
 use Rattle.listed.specs.Listing.{listing}
 use Rattle.list.specs.Tool.{listing_of, PrintsAs}
-use Rattle.card.specs.declared.Reading.{Reading}
+use Rattle.card.specs.declared.Card.{Card as OrderCard}
 
-abbrev read : Reading → List ℕ
-read R = take (R.count - 0) R.columns
+module _ {b : List ℕ} {d : Dec (Readable b)} {c : OrderCard} (reads : ReadsAs d (Ok c)) where
+  pub order_on_card : (others : List (ℕ × Wanted))
+      → first_of (order_table (Sized edition1 c.n c.k) (sized? edition1 c.n c.k) c.n c.columns.items others) ≡ first_of (card_table edition1 d others)
+  order_on_card others =
+      rw (reads.card.n, reads.card.k, reads.card.columns) refl
+      ∙ sym (first_skip (unreadable d) _ ((first_none (unreadable d ∷ [])).0 (sym reads.answer)).0)
 
-module _ {b : List ℕ} {d : Dec (Readable b)} {R : Reading} (reads : ReadsAs d R) where
-  columns_read : read R ≡ columns_on d
-  columns_read = rw reads.columns (padded_part most_columns (columns_on d) R.count reads.count)
-
-  module _ (readable : R.answer ≡ Done) (others : List (ℕ × Wanted)) where
-    pub order_on_card : first_of (order_table (Sized edition1 R.n R.k) (sized? edition1 R.n R.k) R.n (read R) others) ≡ first_of (card_table edition1 d others)
-    order_on_card =
-        rw (reads.n, reads.k, columns_read) refl
-        ∙ sym (first_skip (unreadable d) _ ((first_none (unreadable d ∷ [])).0 (sym reads.answer ∙ ap said readable)).0)
-
-  pub listed_read : listing R.n R.k (read R) ≡ listing_of d
-  listed_read = rw (reads.n, reads.k, columns_read) refl
+  pub listed_read : listing c.n c.k c.columns.items ≡ listing_of d
+  listed_read = rw (reads.card.n, reads.card.k, reads.card.columns) refl
 
 module _ {b : List ℕ} (d : Dec (Readable b)) (others : List (ℕ × Wanted)) (right : RightLengths others) where
   pub lengths_right : first_of (card_table edition1 d others) ≡ first_of (card_table edition1 d [])

@@ -7,6 +7,7 @@ use mathlib.Core.Path.{◌≡◌, refl, sym, ◌∙◌}
 use mathlib.Core.List.{List, [], ◌∷◌}
 use mathlib.Core.Logic.{◌≢◌}
 use mathlib.Core.Option.{none}
+use Rattle.std.specs.Prelude.{Result}
 use native.Mathlib.Omega.{arith}
 use lib.ListN.{length}
 use Rattle.kinds.specs.Edition.{Edition, Sized}
@@ -15,7 +16,7 @@ use Rattle.kinds.specs.First.{first_of}
 use Rattle.kinds.specs.Lengths.{Wanted, exactly, RightLengths}
 use Rattle.kinds.specs.Reasons.{outside, wrong_length}
 use Rattle.kinds.specs.Refusal.{said}
-use Rattle.kinds.specs.declared.Answer.{Answer}
+use Rattle.kinds.specs.declared.Refusal.{Refusal}
 use Rattle.kinds.proofs.FirstLaws.{first_take, first_alike, first_none}
 use Rattle.kinds.proofs.AnswerLaws.{said_same, answers_kept, answers_same, answers_agree}
 use Rattle.card.specs.Card.{Readable, n_on, k_on, columns_on, unreadable, card_table}
@@ -24,7 +25,7 @@ use Rattle.listed.specs.Tool.{text_places}
 use Rattle.list.specs.Tool.{list_lengths, Lists, Prints}
 
 module _ (e : Edition) (b t : List ℕ) where
-  pub lists_unique : (l x y m o : List ℕ) (r q : Answer) → Lists e b t x l m r → Lists e b t y l o q → (r ≡ q) × ((x ≡ y) × (m ≡ o))
+  pub lists_unique : (l x y m o : List ℕ) (r q : Result Unit Refusal) → Lists e b t x l m r → Lists e b t y l o q → (r ≡ q) × ((x ≡ y) × (m ≡ o))
   lists_unique l x y m o r q lists also =
       let p = lists (card? b) in
       let w = also (card? b) in (
@@ -38,7 +39,7 @@ module _ (e : Edition) (b t : List ℕ) where
       let w = also (card? b) in
       (p.length_of ∙ sym w.length_of, p.text ∙ sym w.text)
 
-module _ {e : Edition} {b t u l m : List ℕ} (a : Answer) (lists : Lists e b t u l m a) (short : length t < text_places) (d : Dec (Readable b)) where
+module _ {e : Edition} {b t u l m : List ℕ} (a : Result Unit Refusal) (lists : Lists e b t u l m a) (short : length t < text_places) (d : Dec (Readable b)) where
   wrong : ¬ RightLengths ((length (columns_on d), exactly (n_on d)) ∷ list_lengths t l)
   wrong right = omega (arith, short, right.1.0)
 

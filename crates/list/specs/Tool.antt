@@ -10,13 +10,12 @@
 --                          refused, t' is t and l' is l
 --   PrintsAs w t t' r      w is printed: it stands from the first place of t' on, the rest of t' is as it came, and r is its length
 --   Prints e b t t' r      the program's text
-use Rattle.std.specs.Prelude.{ℕ, ◌≡◌, cond, List, [], ◌∷◌, ◌++◌, eqb, length, get_or}
+use Rattle.std.specs.Prelude.{ℕ, ◌≡◌, cond, List, [], ◌∷◌, ◌++◌, eqb, length, get_or, Result}
 use Rattle.std.proofs.Math.Option.{Option, none, some}
 use Rattle.kinds.specs.Answers.{Answers, over_front}
 use Rattle.kinds.specs.Edition.{Edition}
 use Rattle.kinds.specs.First.{first_of}
 use Rattle.kinds.specs.Refusal.{number_of, values_of, said}
-use Rattle.kinds.specs.declared.Answer.{Answer}
 use Rattle.kinds.specs.declared.Refusal.{Refusal}
 use Rattle.kinds.specs.Lengths.{Wanted, exactly, at_least}
 use Rattle.text.specs.Decimal.{codes, decimal}
@@ -37,7 +36,7 @@ list_lengths t l = (length t, at_least text_places) ∷ (length l, exactly 1) �
 abbrev pub listing_of : {b : List ℕ} → Dec (Readable b) → List ℕ
 listing_of d = listing (n_on d) (k_on d) (columns_on d)
 
-abbrev pub Lists : Edition → List ℕ → List ℕ → List ℕ → List ℕ → List ℕ → Answer → Type 0
+abbrev pub Lists : Edition → List ℕ → List ℕ → List ℕ → List ℕ → List ℕ → Result Unit Refusal → Type 0
 Lists e b t t' l l' r =
     (d : Dec (Readable b))
     → Answers (card_table e d (list_lengths t l)) (said r) ((t' ≡ over_front (listing_of d) t) × (l' ≡ length (listing_of d) ∷ [])) ((t' ≡ t) × (l' ≡ l))

@@ -8,43 +8,28 @@ ghost use Rattle.kinds.specs.Lengths.{exactly, at_least, RightLengths};
 ghost use Rattle.listed.specs.Tool.{text_places};
 ghost use Rattle.list.specs.Tool.{column_line, refusal_line, Lists, PrintsAs, Prints};
 
-use kinds::{Answer, Refusal};
+use kinds::Refusal;
 
 pub const ROOM: usize = listed::ROOM;
 
 // The text for the card's order, from the first place on, and how long it is. 15, then 1 to 4; the text buffer has to have ROOM places or more.
-pub fn list(card: &[u8], text: &mut [u8], length: &mut [u32]) -> Answer
+pub fn list(card: &[u8], text: &mut [u8], length: &mut [u32]) -> Result<(), Refusal>
     ensures { Lists edition1 card.now text.old text.new length.old length.new result }
 {
-    let reading = card::read(card);
-    let readable = reading.answer;
-    let is_card = kinds::is_done(readable);
-    if !is_card {
-        return readable;
-    }
+    let card = card::read(card)?;
     let fits = lent_right(text.len(), length.len());
-    let n = reading.n;
-    let k = reading.k;
-    let numbers = reading.columns;
-    let count = reading.count;
-    let columns = &numbers[0..count];
-    let answer = order::check_with_k(n, k, columns, fits);
-    let is_order = kinds::is_done(answer);
-    if !is_order {
-        return answer;
+    let columns = card.columns.as_slice();
+    order::check_with_k(card.n, card.k, columns, fits)?;
+    if let Some(end) = listed::list_order(card.n, card.k, columns, text) {
+        length[0] = end as u32;
     }
-    let end = listed::list_order(n, k, columns, text);
-    length[0] = end as u32;
-    answer
+    Ok(())
 }
 
 fn lent_right(text: usize, lengths: usize) -> bool
     ensures { Says result (RightLengths ((text, at_least text_places) ∷ (lengths, exactly 1) ∷ [])) }
 {
-    if text < ROOM {
-        return false;
-    }
-    lengths == 1
+    ROOM <= text && lengths == 1
 }
 
 // What is printed for a card: its text, or its refusal.
@@ -52,12 +37,10 @@ pub fn print(card: &[u8], text: &mut [u8; ROOM]) -> usize
     ensures { Prints edition1 card.now text.old text.new result }
 {
     let mut length = [0; 1];
-    let answer = list(card, text, &mut length);
-    let Answer::Refused(refusal) = answer else {
-        let end = &length[0..1];
-        return end[0] as usize;
-    };
-    put_refusal(text, refusal)
+    match list(card, text, &mut length) {
+        Ok(()) => length[0] as usize,
+        Err(refusal) => put_refusal(text, refusal),
+    }
 }
 
 fn put_refusal(text: &mut [u8], refusal: Refusal) -> usize
@@ -66,10 +49,7 @@ fn put_refusal(text: &mut [u8], refusal: Refusal) -> usize
 {
     match refusal {
         Refusal::Dependent(column, mask) => put_column(text, column, mask),
-        _ => {
-            let numbers = [kinds::number(refusal)];
-            lines::put_line(text, 0, b"refused", &numbers)
-        }
+        _ => lines::put_line(text, 0, b"refused", &[refusal.into()]),
     }
 }
 
@@ -80,6 +60,5 @@ fn put_column(text: &mut [u8], column: u32, mask: u32) -> usize
 {
     let at = lines::put_bytes(text, 0, b"refused 4 column ");
     let end = lines::put_number(text, at, column);
-    let masks = [mask];
-    lines::put_line(text, end, b" from", &masks)
+    lines::put_line(text, end, b" from", &[mask])
 }

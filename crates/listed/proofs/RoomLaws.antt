@@ -19,7 +19,8 @@ use Rattle.bits.proofs.ImageLaws.{below_one, below_append}
 use Rattle.text.specs.Decimal.{codes, decimal}
 use Rattle.text.proofs.DecimalLaws.{decimal_length}
 use Rattle.order.specs.Order.{place, Order}
-use Rattle.sheet.specs.Sheet.{Stage, Side, flat}
+use Rattle.sheet.specs.Sheet.{Side, flat}
+use Rattle.sheet.specs.declared.Stage.{Stage}
 use Rattle.sheet.specs.Layout.{StageInRange, EachStage}
 use Rattle.sheet.proofs.LayLaws.{flat_length, Layable}
 use Rattle.promise.specs.Series.{words_of_tick}

@@ -1,9 +1,10 @@
 -- What follows from the contract of the listing of an order alone.
 --   lists_order_unique    there is one text, and one length of it
 use Prim.Native.Nat.{ℕ}
-use mathlib.Core.Path.{◌≡◌, refl, sym, ◌∙◌}
+use mathlib.Core.Path.{◌≡◌, refl, sym, ap, ◌∙◌}
 use mathlib.Core.List.{List, []}
 use mathlib.Core.Option.{Option, none, some}
+use Rattle.std.specs.Prelude.{Option as Maybe, Some}
 use native.Mathlib.Decide.{dec_le}
 use lib.ListN.{length}
 use Rattle.kinds.specs.Edition.{edition1, Sized}
@@ -26,8 +27,11 @@ module _ (n k : ℕ) (C x : List ℕ) where
   ]
   listable_by (some y) e = no (λ l. none_some (sym ((order_sound (sized? edition1 n k) n C []).1 (l.sized, tt, l.order)) ∙ e))
 
-  pub lists_order_unique : {y z : List ℕ} {r q : ℕ} → ListsOrder n k C x y r → ListsOrder n k C x z q → (y ≡ z) × (r ≡ q)
+  pub lists_order_unique : {y z : List ℕ} {r q : Maybe ℕ} → ListsOrder n k C x y r → ListsOrder n k C x z q → (y ≡ z) × (r ≡ q)
   lists_order_unique a b = elim (listable_by given refl) [
-    | yes l ↦ ((a.written l).text ∙ sym (b.written l).text, (a.written l).next ∙ sym (b.written l).next)
+    | yes l ↦
+        let (_, r_is, one) = a.written l in
+        let (_, q_is, other) = b.written l in
+        (one.text ∙ sym other.text, r_is ∙ ap Some (one.next ∙ sym other.next) ∙ sym q_is)
     | no not ↦ ((a.left not).0 ∙ sym (b.left not).0, (a.left not).1 ∙ sym (b.left not).1)
   ]

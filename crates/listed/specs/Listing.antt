@@ -6,7 +6,8 @@ use Rattle.std.specs.Prelude.{ℕ, length}
 use mathlib.Core.List.{List, [], ◌∷◌, ◌++◌, flatten}
 use Rattle.kinds.specs.Frame.{ticks, in_order}
 use Rattle.text.specs.Decimal.{codes, decimal}
-use Rattle.sheet.specs.Sheet.{Stage, flat}
+use Rattle.sheet.specs.Sheet.{flat}
+use Rattle.sheet.specs.declared.Stage.{Stage}
 use Rattle.promise.specs.Series.{words_of_tick}
 use Rattle.construction.specs.Planned.{planned_read, planned_write}
 use Rattle.trial.specs.Trial.{words_as_they_leave}

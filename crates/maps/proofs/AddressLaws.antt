@@ -1,8 +1,9 @@
 -- A side with other addresses.
 --   shown_wide        a side that is shown is shown with 16 address columns too
 --   addressable       columns in range may be the addresses
---   readdresses_by, readdresses_not        how other addresses are taken, and how they are not
---   readdressed_shows a side with whichever addresses it takes is shown--   readdresses_unique    taking other addresses has one answer
+--   readdresses_not   how other addresses are not taken
+--   readdressed_shows a side with whichever addresses it takes is shown
+--   readdresses_unique    taking other addresses has one answer
 use Prim.Native.Nat.{ℕ, ◌-◌, ◌^◌, ◌≤◌}
 use mathlib.Core.Path.{◌≡◌, refl, sym, ap, ◌∙◌}
 use mathlib.Core.List.{List, [], ◌∷◌}
@@ -16,7 +17,8 @@ use Rattle.bits.specs.Image.{AllBelow}
 use Rattle.bits.specs.Decisions.{all_below?}
 use Rattle.bits.specs.Padded.{array_width, padded}
 use Rattle.bits.proofs.PaddedLaws.{padded_length, padded_at, padded_whole}
-use Rattle.sheet.specs.Sheet.{Stage, Side, flat}
+use Rattle.sheet.specs.Sheet.{Side}
+use Rattle.sheet.specs.declared.Stage.{Stage}
 use Rattle.sheet.specs.Layout.{StageInRange, EachStage}
 use Rattle.maps.specs.Opened.{readdressed, Addressable, Readdresses, Shows}
 use Rattle.maps.specs.declared.OpenSide.{OpenSide}
@@ -44,7 +46,7 @@ module _ {n k : ℕ} {o : OpenSide} {S : Side} (h : Shows n k o S) where
 
   pub shown_wide : Shows array_width k o (wide S)
   shown_wide = record {
-    is = h.is ∙ ap (λ (A : List ℕ). record { k = k; addresses = A; wiring = padded S.wiring; stages = padded (flat S.stages) }) (sym (padded_whole array_width (padded S.addresses) (padded_length array_width S.addresses (omega (arith, h.addresses, h.words)))));
+    is = h.is ∙ ap (λ (A : List ℕ). record { k = k; addresses = A; wiring = padded S.wiring; stages = record { items = S.stages } }) (sym (padded_whole array_width (padded S.addresses) (padded_length array_width S.addresses (omega (arith, h.addresses, h.words)))));
     ports = omega (arith, h.ports, h.words);
     words = omega arith;
     addresses = padded_length array_width S.addresses (omega (arith, h.addresses, h.words));
@@ -59,22 +61,6 @@ module _ {n k : ℕ} {o : OpenSide} {S : Side} (h : Shows n k o S) where
 
   pub addressable : (B : List ℕ) → AllBelow (2 ^ tick_bits n k) B → Addressable o.k (padded B)
   addressable B below = rw (shown_k h) (record { ports = omega (arith, h.ports, h.words); below = wider B below })
-
-readdressed_is : {n k : ℕ} {o : OpenSide} {S : Side} {A B : List ℕ} → Shows n k o S → A ≡ padded B → length B ≡ n → AllBelow (2 ^ tick_bits n k) B
-    → Shows n k (record { k = o.k; addresses = A; wiring = o.wiring; stages = o.stages }) (readdressed B S)
-readdressed_is h same count below = record {
-  is = let e = h.is in cc;
-  ports = h.ports;
-  words = h.words;
-  addresses = count;
-  wiring = h.wiring;
-  stages = h.stages;
-  used = record { addresses = below; wiring = h.used.wiring; stages = h.used.stages };
-}
-
-pub readdresses_by : {o : OpenSide} {A : List ℕ} → Addressable o.k A
-    → Readdresses o A (record { k = o.k; addresses = A; wiring = o.wiring; stages = o.stages })
-readdresses_by may = record { taken = λ _. refl; kept = λ not. absurd (not may); shows = λ n k S B h same count below. readdressed_is h same count below }
 
 pub readdresses_not : {o : OpenSide} {A : List ℕ} → ¬ Addressable o.k A → Readdresses o A o
 readdresses_not {o} {A} not = record {

@@ -1,4 +1,3 @@
 -- Laws of a side that was opened.
 pub mod OpenLaws
 pub mod AddressLaws
-pub mod CountLaws

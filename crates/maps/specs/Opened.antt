@@ -1,9 +1,9 @@
 -- A side of a sheet that was opened: checked once, and then asked as often as one likes.
---   open_stages                   an opened side has an array of columns of either kind, and one with places for 8 stages
+--   open_stages                   an opened side has room for 8 stages
 --   opened k S                   the side S, opened
 --   Shows n k o S                o is the side S, opened: S has n address columns, k wiring columns and at most open_stages stages, all in range
---   closed                       what stands in place of a side where the sheet was refused
---   unopened x                   what is opened where the refusal x is given: neither side
+--   closed                       the side with nothing on it, opened
+--   ShowsBoth e n k s o          o is both sides of the sheet s, opened
 --   Opens e n k s fits r         opening the sheet s: r has the lowest of 1, 2 and 5 that applies, fits as in `Checks`; where none does, r shows both sides
 --   readdressed B S              the side S with the address columns B in place of its own
 --   Addressable k A              the columns A may be the addresses of a side with k wiring columns: no cell's number then has more than 16 bits
@@ -15,31 +15,29 @@
 --   SaysSurplus o r              r says whether that side has more stages than the rank of its tick-to-bank part
 --   AreColumns o r               r is the columns of that side's map, and zeros after them
 --   ListsCells o c out out' r    all cells of one tick into a lent buffer, which has 2^k places or is refused: done, out' is these, by port; refused, out as it came
-use Rattle.std.specs.Prelude.{ℕ, ◌-◌, ◌^◌, ◌≤◌, ◌≡◌, Bool, List, [], ◌∷◌, length}
+use Rattle.std.specs.Prelude.{ℕ, ◌-◌, ◌^◌, ◌≤◌, ◌≡◌, Bool, List, [], ◌∷◌, length, Result, IfOk}
 use Rattle.kinds.specs.Edition.{Edition}
 use Rattle.kinds.specs.Frame.{tick_bits, in_order}
 use Rattle.kinds.specs.Refusal.{said}
 use Rattle.kinds.specs.Reasons.{wrong_length}
 use Rattle.kinds.specs.Answers.{Says, Checks, Answers}
-use Rattle.kinds.specs.declared.Answer.{Answer}
-use Rattle.kinds.specs.declared.Answer.TheVariants.{Done, Refused}
 use Rattle.kinds.specs.declared.Refusal.{Refusal}
 use Rattle.kinds.specs.Lengths.{exactly}
 use Rattle.bits.specs.Image.{AllBelow}
-use Rattle.sheet.specs.Sheet.{Side, write_side, read_side, flat}
+use Rattle.sheet.specs.Sheet.{Side, write_side, read_side}
 use Rattle.bits.specs.Padded.{array_width, padded}
 use Rattle.sheet.specs.Layout.{InRange}
 use Rattle.sheet.specs.Table.{sheet_table}
 use Rattle.switches.specs.Cells.{address_at, bank_at, cell_at, cell_columns}
 use Rattle.switches.specs.Surplus.{Surplus}
 use Rattle.maps.specs.declared.OpenSide.{OpenSide}
-use Rattle.maps.specs.declared.Opened.{Opened}
+use Rattle.maps.specs.declared.Sides.{Sides}
 
 abbrev pub open_stages : ℕ
 open_stages = 8
 
 abbrev pub opened : ℕ → Side → OpenSide
-opened k S = record { k = k; addresses = padded S.addresses; wiring = padded S.wiring; stages = padded (flat S.stages) }
+opened k S = record { k = k; addresses = padded S.addresses; wiring = padded S.wiring; stages = record { items = S.stages } }
 
 pub record Shows (n k : ℕ) (o : OpenSide) (S : Side) : Type 0 where
   pub is : o ≡ opened k S
@@ -53,14 +51,13 @@ pub record Shows (n k : ℕ) (o : OpenSide) (S : Side) : Type 0 where
 abbrev pub closed : OpenSide
 closed = opened 0 (record { addresses = []; wiring = []; stages = [] })
 
-abbrev pub unopened : Refusal → Opened
-unopened x = record { answer = Refused x; write = closed; read = closed }
+pub record ShowsBoth (e : Edition) (n k : ℕ) (s : List ℕ) (o : Sides) : Type 0 where
+  pub write : Shows n k o.write (write_side e n k s)
+  pub read : Shows n k o.read (read_side e n k s)
 
-pub record Opens (e : Edition) (n k : ℕ) (s : List ℕ) (fits : Bool) (r : Opened) : Type 0 where
-  pub answer : Checks (sheet_table e n k s) fits r.answer
-  pub write : r.answer ≡ Done → Shows n k r.write (write_side e n k s)
-  pub read : r.answer ≡ Done → Shows n k r.read (read_side e n k s)
-  pub refused : (x : Refusal) → r.answer ≡ Refused x → (r.write ≡ closed) × (r.read ≡ closed)
+pub record Opens (e : Edition) (n k : ℕ) (s : List ℕ) (fits : Bool) (r : Result Sides Refusal) : Type 0 where
+  pub answer : Checks (sheet_table e n k s) fits r
+  pub sides : IfOk r (ShowsBoth e n k s)
 
 abbrev pub readdressed : List ℕ → Side → Side
 readdressed B S = record { addresses = B; wiring = S.wiring; stages = S.stages }
@@ -92,7 +89,7 @@ SaysSurplus o r = (n k : ℕ) (S : Side) → Shows n k o S → Says r (Surplus (
 abbrev pub AreColumns : OpenSide → List ℕ → Type 0
 AreColumns o r = (n k : ℕ) (S : Side) → Shows n k o S → r ≡ padded (cell_columns n k S)
 
-abbrev pub ListsCells : OpenSide → ℕ → List ℕ → List ℕ → Answer → Type 0
+abbrev pub ListsCells : OpenSide → ℕ → List ℕ → List ℕ → Result Unit Refusal → Type 0
 ListsCells o c out out' r =
     (n k : ℕ) (S : Side) → Shows n k o S
     → Answers (wrong_length ((length out, exactly (2 ^ k)) ∷ []) ∷ []) (said r) (out' ≡ in_order (2 ^ k) (cell_at k S c)) (out' ≡ out)

@@ -10,29 +10,22 @@ ghost use Rattle.order.specs.Order.{Moved};
 ghost use Rattle.mover.specs.Tool.{Moves};
 ghost use Rattle.mover.specs.Inside.{Steps, TwoFrames};
 
-use kinds::Answer;
+use kinds::Refusal;
 
 // 1 to 4.
-pub fn move_frame(n: u32, columns: &[u16], frame: &[u32], out: &mut [u32]) -> Answer
+pub fn move_frame(n: u32, columns: &[u16], frame: &[u32], out: &mut [u32]) -> Result<(), Refusal>
     ensures { Moves edition1 n columns.now frame.now out.old out.new result }
 {
     let fits = are_frames(n, frame.len(), out.len());
-    let answer = order::check(n, columns, fits);
-    let done = kinds::is_done(answer);
-    if !done {
-        return answer;
-    }
+    order::check(n, columns, fits)?;
     move_words(columns, frame, out);
-    answer
+    Ok(())
 }
 
 fn are_frames(n: u32, came: usize, leaves: usize) -> bool
     ensures { Says result (RightLengths ((came, exactly (2 ^ n)) ∷ (leaves, exactly (2 ^ n)) ∷ [])) }
 {
-    if !bits::is_two_to(came, n) {
-        return false;
-    }
-    bits::is_two_to(leaves, n)
+    bits::is_two_to(came, n) && bits::is_two_to(leaves, n)
 }
 
 // From each number to the next the place changes by one step.
@@ -42,13 +35,10 @@ fn move_words(columns: &[u16], frame: &[u32], out: &mut [u32])
 {
     let steps = steps_of(columns);
     let mut place = 0;
-    let mut i = 0;
-    while i < frame.len() {
-        let at = place as usize;
-        out[at] = frame[i];
-        i += 1;
-        let zeros = u64::trailing_zeros(i as u64) as usize;
-        place = place ^ steps[zeros];
+    for (i, word) in frame.iter().enumerate() {
+        out[place as usize] = *word;
+        let zeros = (i as u64 + 1).trailing_zeros() as usize;
+        place ^= steps[zeros];
     }
 }
 
@@ -59,11 +49,9 @@ fn steps_of(columns: &[u16]) -> [u16; 17]
 {
     let mut steps = [0; 17];
     let mut sum = 0;
-    let mut j = 0;
-    while j < columns.len() {
-        sum = sum ^ columns[j];
+    for (j, column) in columns.iter().enumerate() {
+        sum ^= *column;
         steps[j] = sum;
-        j += 1;
     }
     steps
 }

@@ -14,6 +14,7 @@ use mathlib.Core.List.{List}
 use lib.ListN.{length, get_or}
 use lib.Pow.{pow-lt}
 use lib.Seq.{ext_get_or}
+use Rattle.std.specs.Prelude.{Option, Some}
 use Rattle.bits.proofs.ImageLaws.{image_zero, image_xor, image_unit, image_lt, linear_agree}
 use Rattle.span.specs.Maps.{Bijection}
 use Rattle.span.specs.Sums.{SumOf}
@@ -33,8 +34,9 @@ order_sum {v = v} o h = let x = (order_bijection o).onto v h in record { selecte
 abbrev pub LeavesAt : ℕ → List ℕ → ℕ → ℕ → Type 0
 LeavesAt n C p i = (i < 2 ^ n) × (place C i ≡ p)
 
-pub order_asked : {n : ℕ} {C : List ℕ} {scan : Scan} {p r : ℕ} → Order n C → Holds scan C → p < 2 ^ n → Asks scan p r → LeavesAt n C p r
-order_asked o holds h a = rw o.count at (asked holds (order_sum o h) a)
+pub order_asked : {n : ℕ} {C : List ℕ} {scan : Scan} {p : ℕ} {r : Option ℕ} → Order n C → Holds scan C → p < 2 ^ n → Asks scan p r
+    → (i : ℕ) × (r ≡ Some i) × LeavesAt n C p i
+order_asked o holds h a = let (i, is, low, sum) = asked holds (order_sum o h) a in (i, is, (rw o.count at low, sum))
 
 pub undoes_columns : {n : ℕ} {C D : List ℕ} → Order n C → length D ≡ n → ((b : ℕ) → b < n → LeavesAt n C (2 ^ b) (get_or D b 0)) → Undoes n C D
 undoes_columns {n} {C} {D} o count leaves = record {

@@ -5,22 +5,20 @@
 --   order_ascending  its numbers go up, so the first that applies is the lowest
 --   order_sound      none applies exactly when the sizes are right, every lent length is, and the columns are an order
 use Prim.Native.Nat.{ℕ, ◌^◌}
-use mathlib.Core.Path.{◌≡◌, sym, ap, ◌∙◌}
+use mathlib.Core.Path.{◌≡◌, sym, ◌∙◌}
 use mathlib.Core.Bool.{Bool}
 use mathlib.Core.List.{List, [], ◌∷◌}
 use mathlib.Core.Logic.{◌↔◌}
-use mathlib.Core.Option.{none}
+use mathlib.Core.Option.{Option, none, some}
 use native.Mathlib.Decide.{dec_lt}
 use native.Mathlib.Omega.{arith}
 use lib.ListN.{length, get_or}
 use Rattle.kinds.specs.First.{first_of, Ascending}
-use Rattle.kinds.specs.Answers.{Checks}
+use Rattle.kinds.specs.Answers.{Says}
 use Rattle.kinds.specs.Reasons.{outside}
 use Rattle.kinds.specs.Lengths.{Wanted, exactly, RightLengths}
 use Rattle.kinds.specs.Decisions.{right_lengths?}
-use Rattle.kinds.specs.Refusal.{said}
-use Rattle.kinds.specs.declared.Answer.{Answer}
-use Rattle.kinds.specs.declared.Answer.TheVariants.{Refused}
+use Rattle.kinds.specs.declared.Refusal.{Refusal}
 use Rattle.kinds.specs.declared.Refusal.TheVariants.{Sizes}
 use Rattle.kinds.proofs.TruthLaws.{stable}
 use Rattle.kinds.proofs.FirstLaws.{first_take, first_skip, first_none}
@@ -28,8 +26,6 @@ use Rattle.bits.specs.Image.{AllBelow}
 use Rattle.span.specs.Decisions.{independent?}
 use Rattle.order.specs.Order.{Order, ColumnTooLarge}
 use Rattle.order.specs.Table.{column_too_large, column_table, order_table}
-use Rattle.order.specs.Inside.{ChecksColumns}
-use Rattle.order.specs.declared.Checked.{Checked}
 
 not_large : (n : ℕ) (C : List ℕ) → ¬ ColumnTooLarge n C → AllBelow (2 ^ n) C
 not_large n C small j l = elim (dec_lt (get_or C j 0) (2 ^ n)) [ yes b ↦ b | no out ↦ absurd (small (j, l, omega arith)) ]
@@ -38,11 +34,13 @@ pub too_large : (n : ℕ) (C : List ℕ) → ¬ AllBelow (2 ^ n) C → ColumnToo
 too_large n C beyond = stable (column_too_large n C).decided (λ small. beyond (not_large n C small))
 
 module _ {S : Type 0} (sized : Dec S) (n : ℕ) (C : List ℕ) where
-  pub outside_sizes_law : (fits : Bool) {r : Answer} → ¬ S → r ≡ Refused Sizes → Checks (order_table S sized n C) fits r
-  outside_sizes_law fits out e others f = ap said e ∙ sym (first_take (outside S sized) (column_table n (C ∷ []) others) out)
+  module _ (fits : Bool) where
+    pub outside_sizes_law : ¬ S → (others : List (ℕ × Wanted)) → Says fits (RightLengths others) → some Sizes ≡ first_of (order_table S sized n C others)
+    outside_sizes_law out others f = sym (first_take (outside S sized) (column_table n (C ∷ []) others) out)
 
-  pub within_sizes : (fits : Bool) {r : Checked} → S → ChecksColumns n C fits r → Checks (order_table S sized n C) fits r.answer
-  within_sizes fits s j others f = j.answer others f ∙ sym (first_skip (outside S sized) (column_table n (C ∷ []) others) (λ out. out s))
+    pub within_sizes : (o : Option Refusal) → S → ((others : List (ℕ × Wanted)) → Says fits (RightLengths others) → o ≡ first_of (column_table n (C ∷ []) others))
+        → (others : List (ℕ × Wanted)) → Says fits (RightLengths others) → o ≡ first_of (order_table S sized n C others)
+    within_sizes o s gives others f = gives others f ∙ sym (first_skip (outside S sized) (column_table n (C ∷ []) others) (λ out. out s))
 
   pub order_ascending : (others : List (ℕ × Wanted)) → Ascending (order_table S sized n C others)
   order_ascending others =

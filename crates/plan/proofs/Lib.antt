@@ -2,3 +2,4 @@
 pub mod ListedLaws
 pub mod DrawnLaws
 pub mod ToolLaws
+pub mod CheckedLaws

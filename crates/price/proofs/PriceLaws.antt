@@ -14,16 +14,17 @@ use native.Mathlib.Nat.{suc-mul}
 use native.Mathlib.Omega.{arith}
 use lib.ListN.{length, get_or, length-drop}
 use lib.Count.{ones-le}
+use Rattle.std.specs.Prelude.{Result, Ok, Err}
 use Rattle.kinds.specs.Edition.{Edition, edition1, side_places}
-use Rattle.sheet.specs.Sheet.{Stage, count_place, stage_places, stage_at, stages_in}
+use Rattle.sheet.specs.Sheet.{count_place, stage_places, stage_at, stages_in}
+use Rattle.sheet.specs.declared.Stage.{Stage}
 use Rattle.sheet.specs.Layout.{FormedSide}
 use Rattle.price.specs.Price.{total, xor_gates_of, Prices}
 use Rattle.price.specs.Inside.{Controlled}
+use Rattle.kinds.specs.declared.Refusal.{Refusal}
 use Rattle.kinds.proofs.AnswerLaws.{answers_same}
 use Rattle.kinds.proofs.FirstLaws.{none_some}
 use Rattle.price.specs.declared.Sums.{Sums}
-use Rattle.price.specs.declared.Priced.{Priced}
-use Rattle.price.specs.declared.Priced.TheVariants.{Costs, Refused}
 use Rattle.sheet.proofs.StageLaws.{stages_none, stages_snoc, each_stage, formed_stage}
 
 pub total_append : (f : Stage → ℕ) (ss ts : List Stage) → total f (ss ++ ts) ≡ total f ss + total f ts
@@ -69,8 +70,8 @@ carry_same p q e = made (ap (λ (l : List ℕ). get_or l 0 0) e) (ap (λ (l : Li
         → ◌≡◌ {A = Sums} (record { switches = a; multiplexers = b; gates = c }) (record { switches = x; multiplexers = y; gates = z })
     made f g h = cc
 
-pub prices_unique : {e : Edition} {n k : ℕ} {s : List ℕ} (a b : Priced) → Prices e n k s a → Prices e n k s b → a ≡ b
-prices_unique (Costs p) (Costs q) x y = ap Costs (carry_same p q (x.done refl ∙ sym (y.done refl)))
-prices_unique (Costs p) (Refused v) x y = none_some (answers_same x y)
-prices_unique (Refused u) (Costs q) x y = none_some (sym (answers_same x y))
-prices_unique (Refused u) (Refused v) x y = let e = answers_same x y in cc
+pub prices_unique : {e : Edition} {n k : ℕ} {s : List ℕ} (a b : Result Sums Refusal) → Prices e n k s a → Prices e n k s b → a ≡ b
+prices_unique (Ok p) (Ok q) x y = ap Ok (carry_same p q (x.done refl ∙ sym (y.done refl)))
+prices_unique (Ok p) (Err v) x y = none_some (answers_same x y)
+prices_unique (Err u) (Ok q) x y = none_some (sym (answers_same x y))
+prices_unique (Err u) (Err v) x y = let e = answers_same x y in cc

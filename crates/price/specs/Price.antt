@@ -5,20 +5,18 @@
 --   xor_gates_of s           "the ones in its control number, less one"
 --   all_stages e n k s    the stages of both sides of the sheet s
 --   price_of e n k s      its price: "three sums over both sides: switches, multiplexers, xor gates"
---   refusal_of_price a     the refusal that the price tool's answer a gives; none where it gives a price
---   sums_of a             the numbers that a carries: the three sums, or those of the refusal
+--   sums_of a             the numbers that the price tool's answer a carries: the three sums, or those of the refusal
 --   Prices e n k s a     the price tool: a is the lowest of 1, 2 and 5 that applies, and carries the price where none does
-use Rattle.std.specs.Prelude.{ℕ, ◌+◌, ◌-◌, ◌*◌, ◌^◌, ◌≡◌, List, [], ◌∷◌, ◌++◌}
-use Rattle.std.proofs.Math.Option.{Option, none, some}
+use Rattle.std.specs.Prelude.{ℕ, ◌+◌, ◌-◌, ◌*◌, ◌^◌, ◌≡◌, List, [], ◌∷◌, ◌++◌, Result, Ok, Err}
 use Rattle.std.specs.Int.Count.{ones}
 use Rattle.kinds.specs.Answers.{Answers}
 use Rattle.kinds.specs.Edition.{Edition}
-use Rattle.kinds.specs.Refusal.{values_of}
+use Rattle.kinds.specs.Refusal.{said, values_of}
 use Rattle.kinds.specs.declared.Refusal.{Refusal}
-use Rattle.sheet.specs.Sheet.{Stage, write_side, read_side}
+use Rattle.sheet.specs.Sheet.{write_side, read_side}
+use Rattle.sheet.specs.declared.Stage.{Stage}
 use Rattle.sheet.specs.Table.{sheet_table}
-use Rattle.price.specs.declared.Priced.{Priced}
-use Rattle.price.specs.declared.Priced.TheVariants.{Costs, Refused}
+use Rattle.price.specs.declared.Sums.{Sums}
 
 unfoldable pub total : (Stage → ℕ) → List Stage → ℕ
 total f [] = 0
@@ -41,13 +39,9 @@ price_of e n k s =
     let both = all_stages e n k s in
     total (switches k) both ∷ total (multiplexers k) both ∷ total xor_gates_of both ∷ []
 
-abbrev pub refusal_of_price : Priced → Option Refusal
-refusal_of_price (Costs p) = none
-refusal_of_price (Refused x) = some x
+abbrev pub sums_of : Result Sums Refusal → List ℕ
+sums_of (Ok p) = p.switches ∷ p.multiplexers ∷ p.gates ∷ []
+sums_of (Err x) = values_of x
 
-abbrev pub sums_of : Priced → List ℕ
-sums_of (Costs p) = p.switches ∷ p.multiplexers ∷ p.gates ∷ []
-sums_of (Refused x) = values_of x
-
-abbrev pub Prices : Edition → ℕ → ℕ → List ℕ → Priced → Type 0
-Prices e n k s a = Answers (sheet_table e n k s []) (refusal_of_price a) (sums_of a ≡ price_of e n k s) Unit
+abbrev pub Prices : Edition → ℕ → ℕ → List ℕ → Result Sums Refusal → Type 0
+Prices e n k s a = Answers (sheet_table e n k s []) (said a) (sums_of a ≡ price_of e n k s) Unit

@@ -19,7 +19,8 @@ use Rattle.sheet.specs.Table.{sheet_lengths, sheet_table}
 use Rattle.sheet.proofs.TableLaws.{sheet_sound}
 use Rattle.state.specs.Decisions.{possible?}
 use Rattle.state.specs.declared.State.{State}
-use Rattle.lent.specs.Lent.{Lent, Lengths, lengths_of, run_lengths, call_table}
+use Rattle.lent.specs.Lent.{Lent, lengths_of, run_lengths, call_table}
+use Rattle.lent.specs.declared.Lengths.{Lengths}
 use Rattle.lent.proofs.LentLaws.{call_sound}
 use Rattle.run.specs.Tool.{check_table}
 use Rattle.run.specs.Sound.{run_table, Sound}

@@ -12,13 +12,14 @@ use mathlib.Core.List.{List}
 use mathlib.Core.Option.{none}
 use native.Mathlib.Omega.{arith}
 use lib.ListN.{length}
+use Rattle.std.specs.Prelude.{Result}
 use Rattle.kinds.specs.Answers.{over_front}
 use Rattle.kinds.specs.Edition.{Edition}
 use Rattle.kinds.specs.Frame.{ticks}
 use Rattle.kinds.specs.First.{Reason}
-use Rattle.kinds.proofs.AnswerLaws.{said_same}
+use Rattle.kinds.specs.declared.Refusal.{Refusal}
 use Rattle.kinds.specs.Lengths.{or_none, IsLength}
-use Rattle.maps.specs.declared.Opened.{Opened}
+use Rattle.maps.specs.declared.Sides.{Sides}
 use Rattle.maps.proofs.OpenLaws.{sides_unique}
 use Rattle.switches.specs.Cells.{M, N}
 use Rattle.switches.proofs.CellLaws.{cell_into}
@@ -26,7 +27,8 @@ use Rattle.state.specs.States.{Possible}
 use Rattle.state.specs.declared.State.{State}
 use Rattle.memory.specs.Memory.{filled_marks}
 use Rattle.call.specs.Call.{Outcome}
-use Rattle.lent.specs.Lent.{Lent, Lengths}
+use Rattle.lent.specs.Lent.{Lent}
+use Rattle.lent.specs.declared.Lengths.{Lengths}
 use Rattle.call.specs.Tool.{After, handed_out}
 use Rattle.call.proofs.CallLaws.{call_given, call_idle, call_possible, call_filled}
 use Rattle.call.proofs.ToolLaws.{comes_unique}
@@ -66,7 +68,5 @@ module _ (e : Edition) (n k : ℕ) (s : List ℕ) (b : Lent) where
   pub ticks_unique : {l r : After} → Runs e n k s b l → Runs e n k s b r → l ≡ r
   ticks_unique x y = comes_unique x y
 
-pub checks_run_unique : {e : Edition} {n k : ℕ} {s : List ℕ} {st : State} {l : Lengths} (r q : Opened) → ChecksRun e n k s st l r → ChecksRun e n k s st l q → r ≡ q
-checks_run_unique r q a b =
-    sides_unique r q (said_same r.answer q.answer (a.answer ∙ sym b.answer))
-    (λ d. (a.write d, a.read d)) (λ d. (b.write d, b.read d)) a.refused b.refused
+pub checks_run_unique : {e : Edition} {n k : ℕ} {s : List ℕ} {st : State} {l : Lengths} (r q : Result Sides Refusal) → ChecksRun e n k s st l r → ChecksRun e n k s st l q → r ≡ q
+checks_run_unique {e} {n} {k} {s} r q a b = sides_unique e n k s r q (a.answer ∙ sym b.answer) a.sides b.sides

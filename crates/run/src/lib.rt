@@ -4,9 +4,10 @@
 ghost use Rattle.kinds.specs.Edition.{edition1};
 ghost use Rattle.run.specs.Tool.{ChecksRun, Runs};
 
-use call::RunAnswer;
-use kinds::{Answer, Refusal};
-use maps::Opened;
+use call::Ran;
+use kinds::Refusal;
+use lent::Lengths;
+use maps::Sides;
 use state::State;
 
 // One call: the words that came, none of them on a blank tick, go in, and the next tick of the frame before, if one is left, goes out. 1, 2, 5 and 10 to 14.
@@ -19,30 +20,23 @@ pub fn tick(
     out: &mut [u32],
     words: &mut [u32],
     marks: &mut [u8],
-) -> RunAnswer
+) -> Result<Ran, Refusal>
     ensures { Runs edition1 n k sheet.now
-        (record { state = state; came = came.now; memory = record { words = words.entry.now; marks = marks.old }; out = out.old })
-        (record { answer = result; memory = record { words = words.exit.now; marks = marks.new }; out = out.new }) }
+        (record { state = state; came = came.now; memory = record { words = words.old; marks = marks.old }; out = out.old })
+        (record { answer = result; memory = record { words = words.new; marks = marks.new }; out = out.new }) }
 {
-    let begun = check(
-        n,
-        k,
-        sheet,
-        state,
-        came.len(),
-        out.len(),
-        words.len(),
-        marks.len(),
-    );
-    let checked = begun.answer;
-    if let Answer::Refused(refusal) = checked {
-        return RunAnswer::Refused(refusal);
-    }
+    let lengths = Lengths {
+        came: came.len(),
+        out: out.len(),
+        words: words.len(),
+        marks: marks.len(),
+    };
+    let sides = check(n, k, sheet, state, lengths)?;
     call::call(
         n,
         k,
-        begun.write,
-        begun.read,
+        &sides.write,
+        &sides.read,
         state,
         came,
         out,
@@ -57,22 +51,14 @@ pub fn check(
     k: u32,
     sheet: &[u16],
     state: State,
-    came: usize,
-    out: usize,
-    words: usize,
-    marks: usize,
-) -> Opened
-    ensures { ChecksRun edition1 n k sheet.now state (record { came = came; out = out; words = words; marks = marks }) result }
+    lengths: Lengths,
+) -> Result<Sides, Refusal>
+    ensures { ChecksRun edition1 n k sheet.now state lengths result }
 {
-    let fits = lent::lengths_fit(n, k, came, out, words, marks);
-    let sides = maps::open(n, k, sheet, fits);
-    let answer = sides.answer;
-    let opened = kinds::is_done(answer);
-    if !opened {
-        return sides;
-    }
+    let fits = lent::lengths_fit(n, k, lengths);
+    let sides = maps::open(n, k, sheet, fits)?;
     if !state.possible(bits::two_to(n - k)) {
-        return maps::refused(Refusal::State);
+        return Err(Refusal::State);
     }
-    sides
+    Ok(sides)
 }

@@ -18,7 +18,8 @@ use lib.Seq.{take-suc, take_all, take_at, drop_at, drop-drop, get_or_at, get_or-
 use Rattle.kinds.specs.Edition.{Edition, Sized, side_places, sheet_places}
 use Rattle.bits.proofs.ImageLaws.{zeros_at}
 use Rattle.bits.proofs.PaddedLaws.{padded_length, padded_at, padded_unique, padded_snoc}
-use Rattle.sheet.specs.Sheet.{Stage, Side, address_places, wiring_places, count_place, stage_places, stage_at, stages_in, stages_from, side_of, write_places, read_places, write_side, read_side, flat, laid_out, sheet_of}
+use Rattle.sheet.specs.Sheet.{Side, address_places, wiring_places, count_place, stage_places, stage_at, stages_in, stages_from, side_of, write_places, read_places, write_side, read_side, flat, laid_out, sheet_of}
+use Rattle.sheet.specs.declared.Stage.{Stage}
 use Rattle.bits.specs.Padded.{padded_to}
 use Rattle.sheet.specs.Layout.{InRange, AllZero, FormedSide, WellFormed}
 use Rattle.kinds.proofs.FrameLaws.{in_order_same}

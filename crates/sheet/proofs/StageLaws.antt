@@ -14,7 +14,8 @@ use lib.ListN.{length, get_or}
 use Rattle.kinds.specs.Edition.{Edition}
 use Rattle.kinds.specs.Frame.{tick_bits, in_order}
 use Rattle.kinds.proofs.FrameLaws.{in_order_length, in_order_same, in_order_snoc}
-use Rattle.sheet.specs.Sheet.{Stage, count_place, stage_places, stage_at, stages_in}
+use Rattle.sheet.specs.Sheet.{count_place, stage_places, stage_at, stages_in}
+use Rattle.sheet.specs.declared.Stage.{Stage}
 use Rattle.sheet.specs.Layout.{StageInRange, EachStage, FormedSide}
 
 pub stages_length : (m : ℕ) (l : List ℕ) → length (stages_in m l) ≡ m

@@ -3,7 +3,8 @@
 --   sheet_sound         none applies exactly when the sizes are right, every lent length is, and the sheet keeps the layout
 --   check_sound         so a sheet whose check was done has the right sizes and length, and keeps the layout
 use Prim.Native.Nat.{ℕ}
-use mathlib.Core.Path.{◌≡◌, sym, ap, ◌∙◌}
+use Rattle.std.specs.Prelude.{Result, IsOk}
+use mathlib.Core.Path.{◌≡◌, sym, ◌∙◌}
 use mathlib.Core.Bool.{Bool}
 use mathlib.Core.List.{List, ◌++◌}
 use mathlib.Core.Logic.{◌↔◌}
@@ -13,13 +14,11 @@ use lib.ListN.{length}
 use Rattle.kinds.specs.Edition.{Edition, Sized, sheet_places}
 use Rattle.kinds.specs.Decisions.{sized?, right_lengths?}
 use Rattle.kinds.specs.Answers.{Checks}
-use Rattle.kinds.specs.Refusal.{said}
-use Rattle.kinds.specs.declared.Answer.{Answer}
-use Rattle.kinds.specs.declared.Answer.TheVariants.{Done}
+use Rattle.kinds.specs.declared.Refusal.{Refusal}
 use Rattle.kinds.specs.First.{first_of, Ascending}
 use Rattle.kinds.specs.Lengths.{Wanted, RightLengths}
 use Rattle.kinds.proofs.TruthLaws.{stable}
-use Rattle.kinds.proofs.AnswerLaws.{some_lengths}
+use Rattle.kinds.proofs.AnswerLaws.{done_none, some_lengths}
 use Rattle.kinds.proofs.FirstLaws.{first_none}
 use Rattle.sheet.specs.Layout.{WellFormed}
 use Rattle.sheet.specs.Decisions.{well_formed?}
@@ -41,9 +40,9 @@ module _ (e : Edition) (n k : ℕ) (s : List ℕ) (others : List (ℕ × Wanted)
         (first_none (sheet_table e n k s others)).1 (λ out. out sized, (λ wrong. wrong right, (λ broken. broken formed, tt))),
   )
 
-pub check_sound : {e : Edition} {n k : ℕ} {s : List ℕ} {r : Answer} (fits : Bool) → Checks (sheet_table e n k s) fits r → r ≡ Done
+pub check_sound : {e : Edition} {n k : ℕ} {s : List ℕ} {A : Type 0} (r : Result A Refusal) (fits : Bool) → Checks (sheet_table e n k s) fits r → IsOk r
     → Sized e n k × (length s ≡ sheet_places e) × WellFormed e n k s
-check_sound {e} {n} {k} {s} fits c d =
+check_sound {e} {n} {k} {s} r fits c d =
     let (others, says) = some_lengths fits in
-    let (sized, right, formed) = (sheet_sound e n k s others).0 (sym (c others says) ∙ ap said d) in
+    let (sized, right, formed) = (sheet_sound e n k s others).0 (sym (c others says) ∙ done_none r d) in
     (sized, right.0, formed)

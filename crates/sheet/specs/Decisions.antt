@@ -6,7 +6,8 @@ use Rattle.kinds.specs.Decided.{both, through, each_below}
 use Rattle.kinds.specs.Edition.{Edition}
 use Rattle.kinds.specs.Frame.{tick_bits}
 use Rattle.bits.specs.Decisions.{all_below?}
-use Rattle.sheet.specs.Sheet.{Stage, Side, address_places, wiring_places, count_place, stage_places, side_of, write_places, read_places}
+use Rattle.sheet.specs.Sheet.{Side, address_places, wiring_places, count_place, stage_places, side_of, write_places, read_places}
+use Rattle.sheet.specs.declared.Stage.{Stage}
 use Rattle.sheet.specs.Layout.{FromTo, StageInRange, EachStage, InRange, AllZero, FormedSide, WellFormed}
 
 unfoldable pub from_to? : (a b x : ℕ) → Dec (FromTo a b x)

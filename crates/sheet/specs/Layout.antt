@@ -11,7 +11,8 @@ use Rattle.std.specs.Prelude.{ℕ, ◌-◌, ◌*◌, ◌^◌, ◌<◌, ◌≤◌
 use Rattle.kinds.specs.Edition.{Edition}
 use Rattle.kinds.specs.Frame.{tick_bits}
 use Rattle.bits.specs.Image.{AllBelow}
-use Rattle.sheet.specs.Sheet.{Stage, Side, address_places, wiring_places, count_place, stage_places, side_of, write_places, read_places}
+use Rattle.sheet.specs.Sheet.{Side, address_places, wiring_places, count_place, stage_places, side_of, write_places, read_places}
+use Rattle.sheet.specs.declared.Stage.{Stage}
 
 pub record FromTo (a b x : ℕ) : Type 0 where
   pub least : a ≤ x

@@ -1,5 +1,4 @@
 -- What a sheet holds (01, 'What a sheet holds'). Whoever reads a sheet, of whichever edition, reads it by these definitions.
---   Stage                 one stage: its direction and its control
 --   Side                  what one side says: address columns, wiring columns, and the stages in order
 --   address_places e l, wiring_places e l, count_place e l, stage_places e l      the rows of 01's table, where l is all places of a side
 --   stage_at l s           stage s of the stage places l: "direction then control"
@@ -16,10 +15,7 @@ use Rattle.std.specs.Prelude.{ℕ, ◌+◌, ◌*◌, ◌/◌, List, [], ◌∷�
 use Rattle.kinds.specs.Edition.{Edition, side_places}
 use Rattle.kinds.specs.Frame.{in_order}
 use Rattle.bits.specs.Padded.{padded_to}
-
-pub record Stage : Type 0 where
-  pub direction : ℕ
-  pub control : ℕ
+use Rattle.sheet.specs.declared.Stage.{Stage}
 
 pub record Side : Type 0 where
   pub addresses : List ℕ

@@ -5,17 +5,17 @@ ghost use Rattle.std.specs.Prelude.{◌≡◌};
 ghost use Rattle.kinds.specs.Answers.{Says, if_holds};
 ghost use Rattle.state.specs.Clocks.{PossibleClock, read_on, Completes, next_clock};
 ghost use Rattle.state.specs.Decisions.{possible_clock?, possible?};
-ghost use Rattle.state.specs.States.{Possible, next as next_state};
+ghost use Rattle.state.specs.States.{clock_of, Possible, next as next_state};
 
 // What every run counts: a, the ticks of the incoming frame so far, and r, the next tick to read, 2^t when idle.
-#[derive(Clone, Copy)]
+#[derive(Clone, Copy, Debug, PartialEq, Eq)]
 pub struct Clock {
     pub a: u32,
     pub r: u32,
 }
 
 // "The state has a (ticks of the incoming frame so far), half h (0 or 1), and r (next tick to read, 2^t when idle)" (01).
-#[derive(Clone, Copy)]
+#[derive(Clone, Copy, Debug, PartialEq, Eq)]
 pub struct State {
     pub a: u32,
     pub h: u32,
@@ -26,27 +26,14 @@ impl Clock {
     pub fn possible(self, ticks: u32) -> bool
         ensures { Says result (PossibleClock ticks self) }
     {
-        if ticks <= self.a {
-            return false;
-        }
-        if self.r < self.a {
-            return false;
-        }
-        self.r <= ticks
+        self.a < ticks && self.a <= self.r && self.r <= ticks
     }
 
     // Whether a call completes the frame that comes in. None does by an impossible clock.
     pub fn completes(self, ticks: u32, came: bool) -> bool
         ensures { Says result (Completes ticks self came) }
     {
-        if !self.possible(ticks) {
-            return false;
-        }
-        if !came {
-            return false;
-        }
-        let a = self.a + 1;
-        a == ticks
+        self.possible(ticks) && came && self.a + 1 == ticks
     }
 
     // The clock after a call: the reader goes on, blank tick or not, and the tick that completes a frame starts it anew. An impossible clock stays as it is.
@@ -64,32 +51,36 @@ impl Clock {
         if a == ticks {
             return Clock { a: 0, r: 0 };
         }
-        Clock { a, r: after.r }
+        Clock { a, ..after }
     }
 
     fn after_read(self, ticks: u32) -> Clock
         ensures { result ≡ read_on ticks self }
     {
         if self.r < ticks {
-            let r = self.r + 1;
-            return Clock { a: self.a, r };
+            return Clock {
+                r: self.r + 1,
+                ..self
+            };
         }
         self
     }
 }
 
 impl State {
+    fn clock(self) -> Clock
+        ensures { result ≡ clock_of self }
+    {
+        Clock {
+            a: self.a,
+            r: self.r,
+        }
+    }
+
     pub fn possible(self, ticks: u32) -> bool
         ensures { Says result (Possible ticks self) }
     {
-        if 2 <= self.h {
-            return false;
-        }
-        let clock = Clock {
-            a: self.a,
-            r: self.r,
-        };
-        clock.possible(ticks)
+        self.h < 2 && self.clock().possible(ticks)
     }
 
     // The state after a call: its clock's, and the tick that completes a frame turns the halves. An impossible state stays as it is.
@@ -99,23 +90,13 @@ impl State {
         if !self.possible(ticks) {
             return self;
         }
-        let words = came.len() != 0;
-        let clock = Clock {
-            a: self.a,
-            r: self.r,
-        };
+        let clock = self.clock();
+        let words = !came.is_empty();
         let after = clock.next(ticks, words);
-        if clock.completes(ticks, words) {
-            let other = 1 - self.h;
-            return State {
-                a: after.a,
-                h: other,
-                r: after.r,
-            };
-        }
+        let completes = clock.completes(ticks, words);
         State {
             a: after.a,
-            h: self.h,
+            h: if completes { 1 - self.h } else { self.h },
             r: after.r,
         }
     }

@@ -8,32 +8,28 @@
 --   stages_rank         what stages make of any map has no greater rank than there are stages
 --   directions_below, controls_below    directions in range are below 2^k, controls below 2^t
 --   selected_beyond     a tick bit beyond the controls' selects nothing
---   after_none, after_more    the bank before any stage, and after one stage more
---   after_lt            stages with numbers of w bits leave a bank of w bits one of w bits
---   idle_stages         zeros after the numbers of stages are stages that change nothing
+--   after_lt            stages with directions of w bits leave a bank of w bits one of w bits
 use Prim.Native.Nat.{ℕ, zero, suc, ◌+◌, ◌*◌, ◌/◌, ◌%◌, ◌^◌, ◌<◌, ◌≤◌}
 use mathlib.Core.Path.{◌≡◌, refl, sym, ap, ap₂, ◌∙◌}
 use mathlib.Core.List.{List, [], ◌∷◌, ◌++◌, map}
 use native.Mathlib.Nat.{div-eq_of_lt}
-use native.Mathlib.Numerals.{add-one}
 use native.Mathlib.Omega.{arith}
 use lib.Bits.{bit_xor, xor_zero_r, xor_lt}
-use lib.ListN.{length, get_or, length-map, get_or-eq_default}
+use lib.ListN.{length, length-map}
 use lib.Pow.{pow_mono, lt_of_le_ones}
 use Rattle.bits.specs.Image.{chosen, image, columns, AllBelow, Linear}
 use Rattle.bits.specs.Parity.{dot}
 use Rattle.bits.proofs.XorLaws.{xor_assoc}
 use Rattle.bits.proofs.ParityLaws.{dot_lt, dot_unit}
-use Rattle.bits.proofs.ImageLaws.{chosen_zero, chosen_lt, image_nil, image_cons, image_xor, linear_agree}
+use Rattle.bits.proofs.ImageLaws.{image_nil, image_cons, image_xor, image_lt, linear_agree}
 use Rattle.span.specs.Rows.{dots}
 use Rattle.span.specs.Scan.{rank}
 use Rattle.span.proofs.RowLaws.{dots_cons, dots_xor}
 use Rattle.span.proofs.SumLaws.{sum_image}
 use Rattle.span.proofs.RankLaws.{rank_le_length, columns_sum}
-use Rattle.sheet.specs.Sheet.{Stage, stage_at, stages_in}
+use Rattle.sheet.specs.declared.Stage.{Stage}
 use Rattle.sheet.specs.Layout.{StageInRange, EachStage}
-use Rattle.sheet.proofs.StageLaws.{stages_none, stages_snoc}
-use Rattle.switches.specs.Stages.{switched, bank_after}
+use Rattle.switches.specs.Stages.{bank_after}
 
 abbrev pub directions : List Stage → List ℕ
 directions ss = map (λ s. s.direction) ss
@@ -97,31 +93,5 @@ selected_beyond b t m (s ∷ ss) each h =
     let even : dot s.control (2 ^ m) ≡ 0 = dot_unit m s.control ∙ ap (λ (x : ℕ). x % 2) (div-eq_of_lt small) in
     selected_cons s ss (2 ^ m) ∙ rw even (selected_beyond b t m ss each.1 h)
 
-pub after_none : (l : List ℕ) (c b : ℕ) → bank_after (stages_in 0 l) c b ≡ b
-unfolding bank_after
-after_none l c b = ap (λ (ss : List Stage). bank_after ss c b) (stages_none l)
-
-pub after_more : (m : ℕ) (l : List ℕ) (c b : ℕ) → bank_after (stages_in (m + 1) l) c b ≡ switched (stage_at l m) c (bank_after (stages_in m l) c b)
-unfolding bank_after
-after_more m l c b =
-    rw (add-one m) (ap (λ (ss : List Stage). bank_after ss c b) (stages_snoc m l) ∙ after_append (stages_in m l) (stage_at l m ∷ []) c b)
-
-pub after_lt : (w : ℕ) (l : List ℕ) → ((j : ℕ) → get_or l j 0 < 2 ^ w) → (m c b : ℕ) → b < 2 ^ w → bank_after (stages_in m l) c b < 2 ^ w
-after_lt w l narrow zero c b h = rw (after_none l c b) h
-after_lt w l narrow (suc m) c b h =
-    rw (← add-one m, after_more m l c b)
-    (xor_lt w (bank_after (stages_in m l) c b) _ (after_lt w l narrow m c b h) (chosen_lt (dot (stage_at l m).control c) (stage_at l m).direction w (narrow (2 * m))))
-
-idle : (m : ℕ) (l : List ℕ) (c b : ℕ) → get_or l (2 * m) 0 ≡ 0 → switched (stage_at l m) c b ≡ b
-idle m l c b none =
-    ap (λ (d : ℕ). bit_xor b (chosen (dot (stage_at l m).control c) d)) none
-    ∙ ap (bit_xor b) (chosen_zero (dot (stage_at l m).control c))
-    ∙ xor_zero_r b
-
-pub idle_stages : (m more : ℕ) (l : List ℕ) → length l ≤ 2 * m → (c b : ℕ) → bank_after (stages_in (m + more) l) c b ≡ bank_after (stages_in m l) c b
-idle_stages m zero l end c b = ap (λ (s : ℕ). bank_after (stages_in s l) c b) (omega arith)
-idle_stages m (suc more) l end c b =
-    ap (λ (s : ℕ). bank_after (stages_in s l) c b) {x = m + suc more} {y = (m + more) + 1} (omega arith)
-    ∙ after_more (m + more) l c b
-    ∙ idle (m + more) l c (bank_after (stages_in (m + more) l) c b) (get_or-eq_default l 0 (omega arith))
-    ∙ idle_stages m more l end c b
+pub after_lt : (w : ℕ) (ss : List Stage) → AllBelow (2 ^ w) (directions ss) → (c b : ℕ) → b < 2 ^ w → bank_after ss c b < 2 ^ w
+after_lt w ss below c b h = rw (stages_sum ss c b) (xor_lt w b (selected ss c) h (image_lt w (directions ss) below (dots (controls ss) c)))

@@ -21,7 +21,8 @@ use Rattle.span.specs.Sums.{Independent}
 use Rattle.span.specs.Scan.{rank}
 use Rattle.span.proofs.RankLaws.{rank_length}
 use Rattle.span.proofs.ThroughLaws.{through_columns, through_full}
-use Rattle.sheet.specs.Sheet.{Stage, Side, write_side, read_side}
+use Rattle.sheet.specs.Sheet.{Side, write_side, read_side}
+use Rattle.sheet.specs.declared.Stage.{Stage}
 use Rattle.sheet.specs.Layout.{StageInRange, EachStage, InRange, WellFormed}
 use Rattle.switches.specs.Cells.{cell_of, M, N, tick_to_bank}
 use Rattle.switches.specs.Written.{kept_stages_of, side_for}

@@ -5,7 +5,7 @@ use Rattle.std.specs.Prelude.{ℕ, List, [], ◌∷◌}
 use Rattle.std.specs.Int.Bits.{bit_xor}
 use Rattle.bits.specs.Image.{chosen}
 use Rattle.bits.specs.Parity.{dot}
-use Rattle.sheet.specs.Sheet.{Stage}
+use Rattle.sheet.specs.declared.Stage.{Stage}
 
 abbrev pub switched : Stage → ℕ → ℕ → ℕ
 switched s c b = bit_xor b (chosen (dot s.control c) s.direction)

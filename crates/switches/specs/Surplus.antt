@@ -7,7 +7,8 @@ use Rattle.kinds.specs.Edition.{Edition}
 use Rattle.kinds.specs.Frame.{tick_bits}
 use Rattle.bits.specs.Image.{columns}
 use Rattle.span.specs.Scan.{rank}
-use Rattle.sheet.specs.Sheet.{Stage, write_side, read_side}
+use Rattle.sheet.specs.Sheet.{write_side, read_side}
+use Rattle.sheet.specs.declared.Stage.{Stage}
 use Rattle.switches.specs.Stages.{bank_after}
 
 abbrev pub tick_part : List Stage → ℕ → ℕ

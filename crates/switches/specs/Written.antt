@@ -9,7 +9,8 @@ use Rattle.kinds.specs.Frame.{tick_bits, address_of}
 use Rattle.bits.specs.Image.{columns}
 use Rattle.span.specs.Rows.{row}
 use Rattle.span.specs.Scan.{kept_at, masks}
-use Rattle.sheet.specs.Sheet.{Stage, Side}
+use Rattle.sheet.specs.Sheet.{Side}
+use Rattle.sheet.specs.declared.Stage.{Stage}
 use Rattle.switches.specs.Cells.{port_to_bank, tick_to_bank}
 
 abbrev pub kept_stage : List ℕ → ℕ → Stage

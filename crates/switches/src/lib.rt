@@ -3,13 +3,13 @@
 
 ghost use Rattle.std.specs.Prelude.{◌≡◌, ◌+◌, ◌*◌, ◌%◌, ◌^◌};
 ghost use Rattle.kinds.specs.Frame.{tick_of, port_of, word_at};
-ghost use Rattle.sheet.specs.Sheet.{stages_from};
 ghost use Rattle.switches.specs.Stages.{bank_after};
 
 use kinds::{Addr, Bank, Port, Tick};
+use sheet::Stage;
 
 // When and where a word comes or leaves.
-#[derive(Clone, Copy)]
+#[derive(Clone, Copy, Debug, PartialEq, Eq)]
 pub struct Slot {
     pub tick: Tick,
     pub port: Port,
@@ -27,41 +27,35 @@ pub fn slot_of(i: u32, k: u32) -> Slot
             port: Port(i),
         };
     }
-    let tick = i / ports;
-    let port = i % ports;
     Slot {
-        tick: Tick(tick),
-        port: Port(port),
+        tick: Tick(i / ports),
+        port: Port(i % ports),
     }
 }
 
-// The number of the word at a tick and port: of it the lower 16 bits, which columns look at.
-pub fn word_number(tick: Tick, port: Port, k: u32) -> u16
-    ensures { result ≡ word_at k tick.0 port.0 % 2 ^ 16 }
+// The number of the word that comes then and there: of it the lower 16 bits, which columns look at.
+pub fn word_number(slot: Slot, k: u32) -> u16
+    ensures { result ≡ word_at k slot.tick.0 slot.port.0 % 2 ^ 16 }
 {
-    bits::joined(tick.0, port.0, k)
+    bits::joined(slot.tick.0, slot.port.0, k)
 }
 
-// "The cell number is address*2^k + bank" (01): of it the lower 16 bits.
+// "The cell number is address*2^k + bank" (01): of it the lower 16 bits. It computes what `word_number` does, of other kinds, which 01 keeps apart.
 pub fn cell_number(address: Addr, bank: Bank, k: u32) -> u16
     ensures { result ≡ (address.0 * 2 ^ k + bank.0) % 2 ^ 16 }
 {
     bits::joined(address.0, bank.0, k)
 }
 
-// Each stage xors its direction into the bank if its control AND the tick has an odd number of ones. Lent are the numbers of the stages, as they stand on a sheet.
-pub fn after_stages(stages: &[u16], tick: Tick, bank: Bank) -> Bank
-    ensures { result.0 ≡ bank_after (stages_from stages.now) tick.0 bank.0 }
+// Each stage xors its direction into the bank if its control AND the tick has an odd number of ones.
+pub fn after_stages(stages: &[Stage], tick: Tick, bank: Bank) -> Bank
+    ensures { result.0 ≡ bank_after stages.now tick.0 bank.0 }
 {
-    let mut b = bank.0;
-    let mut s = 0;
-    while s < stages.len() / 2 {
-        let direction = stages[2 * s] as u32;
-        let control = stages[2 * s + 1] as u32;
-        if bits::parity(control & tick.0) == 1 {
-            b = b ^ direction;
+    let mut after = bank.0;
+    for stage in stages {
+        if bits::parity(u32::from(stage.control) & tick.0) == 1 {
+            after ^= u32::from(stage.direction);
         }
-        s += 1;
     }
-    Bank(b)
+    Bank(after)
 }

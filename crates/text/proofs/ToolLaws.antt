@@ -7,44 +7,48 @@ use Prim.Native.Nat.{ℕ, ◌+◌, ◌<◌, ◌≤◌}
 use mathlib.Core.Path.{◌≡◌, refl, sym, ap, ap₂, subst, ◌∙◌}
 use mathlib.Core.List.{List}
 use native.Mathlib.Omega.{arith}
+use Rattle.std.specs.Prelude.{Result, Ok, Err}
 use lib.ListN.{length, get_or, drop, length-drop}
 use Rattle.kinds.specs.declared.Refusal.{Refusal}
 use Rattle.text.specs.Number.{NumberIs}
 use Rattle.text.specs.Numbers.{Begins, NextIs}
 use Rattle.text.specs.declared.Numeral.{Numeral}
-use Rattle.text.specs.declared.Numeral.TheVariants.{Value, Bad}
-use Rattle.text.specs.declared.Thing.{Thing}
-use Rattle.text.specs.declared.Thing.TheVariants.{Number, Refused}
+use Rattle.text.specs.declared.BadByte.{BadByte}
 use Rattle.text.proofs.ReadLaws.{digits_unique, stops_unique, begins_unique}
 
 -- what comes after is as long, so it starts at the same place
 same_place : (b : List ℕ) (e f : ℕ) → e ≤ length b → f ≤ length b → drop e b ≡ drop f b → e ≡ f
 same_place b e f fits also rest = omega (arith, ap length rest, length-drop e b, length-drop f b)
 
-pub number_unique : (b : List ℕ) (at : ℕ) (r q : Numeral) → NumberIs b at r → NumberIs b at q → r ≡ q
-number_unique b at (Value v e) (Value w f) (_, fits, there) (_, also, too) =
+one_numeral : (x y : Numeral) → x.value ≡ y.value → x.end ≡ y.end → x ≡ y
+one_numeral x y v e = let numeral : ℕ → ℕ → Numeral = λ value end. record { value = value; end = end } in ap₂ numeral v e
+
+pub number_unique : (b : List ℕ) (at : ℕ) (r q : Result Numeral BadByte) → NumberIs b at r → NumberIs b at q → r ≡ q
+number_unique b at (Ok x) (Ok y) (_, fits, there) (_, also, too) =
     let (value, rest) = digits_unique there too in
-    ap₂ Value value (same_place b e f fits also rest)
-number_unique b at (Value v e) (Bad f) (_, _, there) (_, _, stops) = absurd (stops.not v (drop e b) there)
-number_unique b at (Bad e) (Value w f) (_, _, stops) (_, _, there) = absurd (stops.not w (drop f b) there)
-number_unique b at (Bad e) (Bad f) (i, at_i, stops) (j, at_j, too) = ap Bad (at_i ∙ ap (λ (x : ℕ). at + x) (stops_unique stops too) ∙ sym at_j)
+    ap Ok (one_numeral x y value (same_place b x.end y.end fits also rest))
+number_unique b at (Ok x) (Err f) (_, _, there) (_, _, stops) = absurd (stops.not x.value (drop x.end b) there)
+number_unique b at (Err e) (Ok y) (_, _, stops) (_, _, there) = absurd (stops.not y.value (drop y.end b) there)
+number_unique b at (Err e) (Err f) (i, at_i, stops) (j, at_j, too) =
+    let bad : ℕ → BadByte = λ place. record { 0 = place } in
+    ap Err (ap bad (at_i ∙ ap (λ (x : ℕ). at + x) (stops_unique stops too) ∙ sym at_j))
 
 module _ {b : List ℕ} {at : ℕ} where
-  pub next_number : {v next : ℕ} → NextIs b at (Number v next) → (at < next) × (next ≤ length b) × Begins (drop at b) v (drop next b)
-  next_number {v} {next} is =
+  pub next_number : {x : Numeral} → NextIs b at (Ok x) → (at < x.end) × (x.end ≤ length b) × Begins (drop at b) x.value (drop x.end b)
+  next_number {x} is =
       let (w, e, same, after, fits, there) = is.number refl in
-      subst (λ (p : ℕ × ℕ). (at < p.1) × (p.1 ≤ length b) × Begins (drop at b) p.0 (drop p.1 b)) {x = (w, e)} {y = (v, next)}
+      subst (λ (p : ℕ × ℕ). (at < p.1) × (p.1 ≤ length b) × Begins (drop at b) p.0 (drop p.1 b)) {x = (w, e)} {y = (x.value, x.end)}
       (ap (λ (l : List ℕ). (get_or l 0 0, get_or l 1 0)) (sym same)) (after, fits, there)
 
-  pub next_none : {x : Refusal} → NextIs b at (Refused x) → (v : ℕ) (rest : List ℕ) → ¬ Begins (drop at b) v rest
+  pub next_none : {x : Refusal} → NextIs b at (Err x) → (v : ℕ) (rest : List ℕ) → ¬ Begins (drop at b) v rest
   next_none is = (is.refused _ refl).1
 
-pub next_unique : (b : List ℕ) (at : ℕ) (r q : Thing) → NextIs b at r → NextIs b at q → r ≡ q
-next_unique b at (Number v e) (Number w f) is also =
+pub next_unique : (b : List ℕ) (at : ℕ) (r q : Result Numeral Refusal) → NextIs b at r → NextIs b at q → r ≡ q
+next_unique b at (Ok x) (Ok y) is also =
     let (_, fits, begins) = next_number is in
     let (_, fits_too, too) = next_number also in
     let (value, rest) = begins_unique begins too in
-    ap₂ Number value (same_place b e f fits fits_too rest)
-next_unique b at (Number v e) (Refused y) is also = absurd (next_none also v (drop e b) (next_number is).2)
-next_unique b at (Refused x) (Number w f) is also = absurd (next_none is w (drop f b) (next_number also).2)
-next_unique b at (Refused x) (Refused y) is also = ap Refused ((is.refused x refl).0 ∙ sym (also.refused y refl).0)
+    ap Ok (one_numeral x y value (same_place b x.end y.end fits fits_too rest))
+next_unique b at (Ok x) (Err r) is also = absurd (next_none also x.value (drop x.end b) (next_number is).2)
+next_unique b at (Err r) (Ok y) is also = absurd (next_none is y.value (drop y.end b) (next_number also).2)
+next_unique b at (Err r) (Err q) is also = ap Err ((is.refused r refl).0 ∙ sym (also.refused q refl).0)

@@ -9,11 +9,11 @@
 --   place_of r          the place that r gives: the one after the digits, or the bad one
 --   NumeralAt b at o e    from place at of b on stands the number o, and e is the place after its digits; where o is none, no number stands there, and e is the bad place
 --   NumberIs b at r    r is what is read at place at of b
-use Rattle.std.specs.Prelude.{ℕ, ◌+◌, ◌<◌, ◌≤◌, ◌≡◌, List, [], ◌∷◌, ◌++◌, length, take, drop}
+use Rattle.std.specs.Prelude.{ℕ, ◌+◌, ◌<◌, ◌≤◌, ◌≡◌, List, [], ◌∷◌, ◌++◌, length, take, drop, Result, Ok, Err}
 use Rattle.std.proofs.Math.Option.{Option, none, some}
 use Rattle.text.specs.Decimal.{digit, decimal}
 use Rattle.text.specs.declared.Numeral.{Numeral}
-use Rattle.text.specs.declared.Numeral.TheVariants.{Value, Bad}
+use Rattle.text.specs.declared.BadByte.{BadByte}
 
 abbrev pub greatest_number : ℕ
 greatest_number = 65535
@@ -39,17 +39,17 @@ pub record Stops (b : List ℕ) (i : ℕ) : Type 0 where
   pub stops : i < length b → ¬ Starts (take (i + 1) b)
   pub not : (v : ℕ) (rest : List ℕ) → ¬ Digits b v rest
 
-abbrev pub value_of : Numeral → Option ℕ
-value_of (Value v next) = some v
-value_of (Bad e) = none
+abbrev pub value_of : Result Numeral BadByte → Option ℕ
+value_of (Ok n) = some n.value
+value_of (Err e) = none
 
-abbrev pub place_of : Numeral → ℕ
-place_of (Value v next) = next
-place_of (Bad e) = e
+abbrev pub place_of : Result Numeral BadByte → ℕ
+place_of (Ok n) = n.end
+place_of (Err e) = e.0
 
 abbrev pub NumeralAt : List ℕ → ℕ → Option ℕ → ℕ → Type 0
 NumeralAt b at (some v) e = (at < e) × (e ≤ length b) × Digits (drop at b) v (drop e b)
 NumeralAt b at none e = (i : ℕ) × (e ≡ at + i) × Stops (drop at b) i
 
-abbrev pub NumberIs : List ℕ → ℕ → Numeral → Type 0
+abbrev pub NumberIs : List ℕ → ℕ → Result Numeral BadByte → Type 0
 NumberIs b at r = NumeralAt b at (value_of r) (place_of r)

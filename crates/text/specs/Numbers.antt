@@ -4,19 +4,17 @@
 --   EachNumber ns       each of ns may stand there
 --   IsRow b ns          b is a row of numbers, and the numbers are ns
 --   Begins b v rest     b begins with the number v and the byte that ends it; rest comes after
---   refusal_of_thing r    the refusal that r, the next thing on a card, gives; none where it is a number
---   values_of_thing r     the numbers that r carries: the number and the place after the byte that ends it, or those of the refusal
+--   values_of_thing r     the numbers that r, the next thing on a card, carries: the number and the place after the byte that ends it, or those of the refusal
 --   NextIs b at r       r is what is read at place at of b: a number, if b goes on with one there; else the refusal 15
 use Prim.Native.Char.{code}
-use Rattle.std.specs.Prelude.{ℕ, ◌<◌, ◌≤◌, ◌≡◌, List, [], ◌∷◌, ◌++◌, length, drop}
-use Rattle.std.proofs.Math.Option.{Option, none, some}
-use Rattle.kinds.specs.Refusal.{values_of}
+use Rattle.std.specs.Prelude.{ℕ, ◌<◌, ◌≤◌, ◌≡◌, List, [], ◌∷◌, ◌++◌, length, drop, Result, Ok, Err}
+use Rattle.std.proofs.Math.Option.{none, some}
+use Rattle.kinds.specs.Refusal.{said, values_of}
 use Rattle.kinds.specs.declared.Refusal.{Refusal}
 use Rattle.kinds.specs.declared.Refusal.TheVariants.{Card}
 use Rattle.text.specs.Decimal.{decimal}
 use Rattle.text.specs.Number.{greatest_number}
-use Rattle.text.specs.declared.Thing.{Thing}
-use Rattle.text.specs.declared.Thing.TheVariants.{Number, Refused}
+use Rattle.text.specs.declared.Numeral.{Numeral}
 
 abbrev pub ending : List ℕ → ℕ
 ending [] = code "\n"
@@ -38,14 +36,10 @@ pub record Begins (b : List ℕ) (v : ℕ) (rest : List ℕ) : Type 0 where
   pub number : v ≤ greatest_number
   pub bytes : b ≡ decimal v ++ (ending rest ∷ rest)
 
-abbrev pub refusal_of_thing : Thing → Option Refusal
-refusal_of_thing (Number v next) = none
-refusal_of_thing (Refused x) = some x
+abbrev pub values_of_thing : Result Numeral Refusal → List ℕ
+values_of_thing (Ok n) = n.value ∷ n.end ∷ []
+values_of_thing (Err x) = values_of x
 
-abbrev pub values_of_thing : Thing → List ℕ
-values_of_thing (Number v next) = v ∷ next ∷ []
-values_of_thing (Refused x) = values_of x
-
-pub record NextIs (b : List ℕ) (at : ℕ) (r : Thing) : Type 0 where
-  pub number : refusal_of_thing r ≡ none → (v next : ℕ) × (values_of_thing r ≡ v ∷ next ∷ []) × (at < next) × (next ≤ length b) × Begins (drop at b) v (drop next b)
-  pub refused : (x : Refusal) → refusal_of_thing r ≡ some x → (x ≡ Card) × ((v : ℕ) (rest : List ℕ) → ¬ Begins (drop at b) v rest)
+pub record NextIs (b : List ℕ) (at : ℕ) (r : Result Numeral Refusal) : Type 0 where
+  pub number : said r ≡ none → (v next : ℕ) × (values_of_thing r ≡ v ∷ next ∷ []) × (at < next) × (next ≤ length b) × Begins (drop at b) v (drop next b)
+  pub refused : (x : Refusal) → said r ≡ some x → (x ≡ Card) × ((v : ℕ) (rest : List ℕ) → ¬ Begins (drop at b) v rest)

@@ -7,74 +7,66 @@ ghost use Rattle.text.specs.Numbers.{ending as ending_of, NextIs};
 
 use kinds::Refusal;
 
-// A number with the place after its digits, or the first byte from which no number could go on.
-#[derive(Clone, Copy)]
-pub enum Numeral {
-    Value(u16, usize),
-    Bad(usize),
+// A number that was read, and the place after it.
+#[derive(Clone, Copy, Debug, PartialEq, Eq)]
+pub struct Numeral {
+    pub value: u16,
+    pub end: usize,
 }
 
-// "The next thing on the card is either a number or a refusal" (01): a number comes with the place after the byte that ends it.
-#[derive(Clone, Copy)]
-pub enum Thing {
-    Number(u16, usize),
-    Refused(Refusal),
-}
+// The place of the first byte from which no number could go on.
+#[derive(Clone, Copy, Debug, PartialEq, Eq)]
+pub struct BadByte(pub usize);
 
-// The number whose digits start at this place of the bytes: all the digits that stand there.
-pub fn number(bytes: &[u8], at: usize) -> Numeral
+// The number whose digits start at this place of the bytes: all the digits that stand there. `str::parse` neither names the bad byte nor refuses a leading zero.
+pub fn number(bytes: &[u8], at: usize) -> Result<Numeral, BadByte>
     ensures { NumberIs bytes.now at result }
 {
     let mut value: u32 = 0;
     let mut place = at;
     while place < bytes.len() {
         let byte = bytes[place];
-        if byte < b'0' {
+        if !byte.is_ascii_digit() {
             break;
         }
-        if b'9' < byte {
-            break;
+        if value == 0 && place != at {
+            return Err(BadByte(place));
         }
-        if value == 0 {
-            if place != at {
-                return Numeral::Bad(place);
-            }
-        }
-        value = 10 * value + (byte - b'0') as u32;
+        value = 10 * value + u32::from(byte - b'0');
         if 65535 < value {
-            return Numeral::Bad(place);
+            return Err(BadByte(place));
         }
         place += 1;
     }
     if place == at {
-        return Numeral::Bad(at);
+        return Err(BadByte(at));
     }
-    Numeral::Value(value as u16, place)
+    Ok(Numeral {
+        value: value as u16,
+        end: place,
+    })
 }
 
-// The number that starts at this place of the card. A space ends it, and at the card's end the newline. 15.
-pub fn next(card: &[u8], at: usize) -> Thing
+// "The next thing on the card is either a number or a refusal" (01): a number comes with the place after the byte that ends it, which is a space, and at the card's end the newline. 15.
+pub fn next(card: &[u8], at: usize) -> Result<Numeral, Refusal>
     ensures { NextIs card.now at result }
 {
-    let read = number(card, at);
-    let Numeral::Value(value, end) = read else {
-        return Thing::Refused(Refusal::Card);
+    let Ok(read) = number(card, at) else {
+        return Err(Refusal::Card);
     };
-    if end < card.len() {
-        let after = end + 1;
-        if card[end] == ending(card, after) {
-            return Thing::Number(value, after);
-        }
+    let end = read.end;
+    if end < card.len() && card[end] == ending(card, end + 1) {
+        return Ok(Numeral {
+            value: read.value,
+            end: end + 1,
+        });
     }
-    Thing::Refused(Refusal::Card)
+    Err(Refusal::Card)
 }
 
 // The byte that has to end a number, where what comes after it starts at this place.
 fn ending(card: &[u8], after: usize) -> u8
     ensures { result ≡ ending_of (drop after card.now) }
 {
-    if after < card.len() {
-        return b' ';
-    }
-    b'\n'
+    if after < card.len() { b' ' } else { b'\n' }
 }

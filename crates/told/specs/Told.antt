@@ -4,14 +4,13 @@
 --                               Where one is wrong, that is 2 as well: r is the first that applies of the reasons that come before 2, and then 2; and K holds, everything lent is as it came
 --   AnswersAs before T K l l' r   such a tool that is lent three places l for the values of a refusal: r is the number of an answer that meets T, the tool's contract, and l' is l after that answer. Where l is not three
 --                               places: r is the first of before that applies, else 2; K holds, everything else lent is as it came, and l' is l
-use Rattle.std.specs.Prelude.{ℕ, ◌≡◌, List, [], ◌∷◌, ◌++◌, length, take, drop}
+use Rattle.std.specs.Prelude.{ℕ, ◌≡◌, List, [], ◌∷◌, ◌++◌, length, take, drop, Result}
 use Rattle.std.proofs.Math.Option.{Option, none, some}
 use Rattle.kinds.specs.Answers.{over_front}
 use Rattle.kinds.specs.First.{Reason, first_of}
 use Rattle.kinds.specs.Lengths.{Wanted, exactly, RightLengths}
 use Rattle.kinds.specs.Reasons.{wrong_length}
 use Rattle.kinds.specs.Refusal.{said, given, values_of}
-use Rattle.kinds.specs.declared.Answer.{Answer}
 use Rattle.kinds.specs.declared.Refusal.{Refusal}
 
 abbrev pub named : Option Refusal → List ℕ → List ℕ
@@ -22,5 +21,5 @@ pub record Besides (before : List Reason) (l : List (ℕ × Wanted)) (r : ℕ) (
   pub right : RightLengths l → T
   pub wrong : ¬ RightLengths l → (r ≡ given (first_of (before ++ (wrong_length l ∷ [])))) × K
 
-pub record AnswersAs (before : List Reason) (T : Answer → Type 0) (K : Type 0) (l l' : List ℕ) (r : ℕ) : Type 0 where
-  pub tool : Besides before ((length l, exactly 3) ∷ []) r ((a : Answer) × T a × (r ≡ given (said a)) × (l' ≡ named (said a) l)) (K × (l' ≡ l))
+pub record AnswersAs (before : List Reason) (T : Result Unit Refusal → Type 0) (K : Type 0) (l l' : List ℕ) (r : ℕ) : Type 0 where
+  pub tool : Besides before ((length l, exactly 3) ∷ []) r ((a : Result Unit Refusal) × T a × (r ≡ given (said a)) × (l' ≡ named (said a) l)) (K × (l' ≡ l))

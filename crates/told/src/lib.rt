@@ -7,22 +7,22 @@ ghost use Rattle.kinds.specs.Refusal.{said as said_by};
 ghost use Rattle.told.specs.Told.{named};
 ghost use Rattle.told.specs.Places.{Becomes, Tells};
 
-use kinds::{Answer, Refusal};
+use kinds::Refusal;
 
-pub fn tell(answer: Answer, said: &mut [u32]) -> u32
+pub fn tell(answer: Result<(), Refusal>, said: &mut [u32]) -> u32
     ensures { Tells (said_by answer) said.old said.new result }
 {
-    let Answer::Refused(refusal) = answer else {
-        return 0;
-    };
-    tell_refusal(refusal, said)
+    match answer {
+        Ok(()) => 0,
+        Err(refusal) => tell_refusal(refusal, said),
+    }
 }
 
 pub fn tell_refusal(refusal: Refusal, said: &mut [u32]) -> u32
     ensures { Tells (some refusal) said.old said.new result }
 {
     name_values(refusal, said);
-    kinds::number(refusal)
+    refusal.into()
 }
 
 // The column and the mask of 4, and the two ports of 11 and 13.
@@ -37,11 +37,7 @@ fn name_values(refusal: Refusal, said: &mut [u32])
             said[1] = column;
             said[2] = mask;
         }
-        Refusal::WriteClash(first, second) => {
-            said[1] = first.0;
-            said[2] = second.0;
-        }
-        Refusal::ReadClash(first, second) => {
+        Refusal::WriteClash(first, second) | Refusal::ReadClash(first, second) => {
             said[1] = first.0;
             said[2] = second.0;
         }
@@ -55,17 +51,12 @@ pub fn put_three(places: &mut [u32], first: u32, second: u32, third: u32)
     if places.len() != 3 {
         return;
     }
-    places[0] = first;
-    places[1] = second;
-    places[2] = third;
+    places.copy_from_slice(&[first, second, third]);
 }
 
 // Where a length is wrong: 1 if the sizes are too, else 2.
 pub fn wrong_length(sized: bool) -> u32
     ensures { result ≡ cond sized 2 1 }
 {
-    if sized {
-        return 2;
-    }
-    1
+    if sized { 2 } else { 1 }
 }

@@ -1,25 +1,29 @@
 -- The calls of a trial.
 --   lent st ts ws ms out      what a call is lent: the words ts come, and ws and ms are the words and the marks of the memory
---   part_comes      tick c of the words is call c, and there are 2^t such
+--   tick_fits       a tick of a frame is whole
+--   part_comes      tick c of the words is call c
 --   call_goes       a call that is made where the run stands goes to where it stands next, and what the run hands out is then in the out buffer
 --   tick_leaves     in blank call c tick c of the words in lamp order leaves
 --   handed_lamp     so all that is handed out is the words in lamp order
 use Prim.Native.Nat.{ℕ, suc, ◌+◌, ◌-◌, ◌*◌, ◌^◌, ◌<◌, ◌≤◌}
 use mathlib.Core.Path.{◌≡◌, sym, ap, ap₂, ◌∙◌}
 use mathlib.Core.List.{List}
+use native.Mathlib.Nat.{suc-mul, mul-le-mul_right}
 use native.Mathlib.Omega.{arith}
 use lib.ListN.{length, get_or, take, drop, length-take, length-drop}
 use lib.Pow.{pow_pos, pow_mono, split}
 use lib.Seq.{ext_get_or, get_or-take, get_or-drop}
+use Rattle.std.specs.Prelude.{Result}
 use Rattle.kinds.specs.Edition.{edition1}
+use Rattle.kinds.specs.declared.Refusal.{Refusal}
 use Rattle.kinds.specs.Frame.{tick_bits, ticks, port_of, in_order}
-use Rattle.kinds.proofs.FrameLaws.{tick_lt, port_lt, word_lt, in_order_length, in_order_at, in_order_is}
+use Rattle.kinds.proofs.FrameLaws.{frame_whole, tick_lt, port_lt, word_lt, in_order_length, in_order_at, in_order_is}
 use Rattle.memory.specs.Memory.{Memory}
 use Rattle.kinds.specs.Answers.{over_front}
 use Rattle.state.specs.declared.State.{State}
 use Rattle.lent.specs.Lent.{Lent}
 use Rattle.call.specs.Tool.{After, state_after, ComesOf}
-use Rattle.call.specs.declared.RunAnswer.{RunAnswer}
+use Rattle.call.specs.declared.Ran.{Ran}
 use Rattle.run.specs.Tool.{Runs}
 use Rattle.promise.specs.Series.{call_at, Series, word_in, frame, words_of_tick}
 use Rattle.promise.specs.Run.{standing}
@@ -35,6 +39,9 @@ use Rattle.trial.proofs.LampLaws.{lamp_moved}
 
 abbrev pub lent : State → List ℕ → List ℕ → List ℕ → List ℕ → Lent
 lent st ts ws ms out = record { state = st; came = ts; memory = record { words = ws; marks = ms }; out = out }
+
+pub tick_fits : {n k c : ℕ} → k ≤ n → c < ticks n k → c * 2 ^ k + 2 ^ k ≤ 2 ^ n
+tick_fits {n} {k} {c} within h = omega (arith, frame_whole within, mul-le-mul_right (2 ^ k) h, suc-mul c (2 ^ k))
 
 module _ {n k : ℕ} {s : List ℕ} (run : Runnable n k s) where
   abbrev T : ℕ
@@ -52,24 +59,22 @@ module _ {n k : ℕ} {s : List ℕ} (run : Runnable n k s) where
   series : Series k S
   series = one_frame_series n k (λ i. i) within (λ i h. omega (arith, pow_mono {i = n} {j = 10} run.sized.frame.most))
 
-  module _ {f : List ℕ} {at ports c : ℕ} (words : f ≡ in_order (2 ^ n) (λ i. i)) (from : at ≡ c * 2 ^ k) (wide : ports ≡ 2 ^ k) (h : c < T) where
-    part_long : length (take (at + ports - at) (drop at f)) ≡ 2 ^ k
+  module _ {f : List ℕ} {c : ℕ} (words : f ≡ in_order (2 ^ n) (λ i. i)) (h : c < T) where
+    part_long : length (take (2 ^ k) (drop (c * 2 ^ k) f)) ≡ 2 ^ k
     part_long =
-        let last = word_lt {p = 2 ^ k - 1} within h (omega (arith, pow_pos k)) in
         let count : length f ≡ 2 ^ n = ap length words ∙ in_order_length (2 ^ n) (λ i. i) in
-        omega (arith, length-take (at + ports - at) (drop at f), length-drop at f, pow_pos k)
+        omega (arith, length-take (2 ^ k) (drop (c * 2 ^ k) f), length-drop (c * 2 ^ k) f, tick_fits within h)
 
-    part_at : (p : ℕ) → p < 2 ^ k → get_or (take (at + ports - at) (drop at f)) p 0 ≡ c * 2 ^ k + p
+    part_at : (p : ℕ) → p < 2 ^ k → get_or (take (2 ^ k) (drop (c * 2 ^ k) f)) p 0 ≡ c * 2 ^ k + p
     part_at p l =
-        get_or-take (at + ports - at) (drop at f) p 0 (omega arith)
-        ∙ get_or-drop at f p 0
-        ∙ ap (λ (x : List ℕ). get_or x (at + p) 0) words
-        ∙ in_order_at (2 ^ n) (λ i. i) 0 (at + p) (omega (arith, word_lt within h l))
-        ∙ ap (λ (a : ℕ). a + p) from
+        get_or-take (2 ^ k) (drop (c * 2 ^ k) f) p 0 l
+        ∙ get_or-drop (c * 2 ^ k) f p 0
+        ∙ ap (λ (x : List ℕ). get_or x (c * 2 ^ k + p) 0) words
+        ∙ in_order_at (2 ^ n) (λ i. i) 0 (c * 2 ^ k + p) (word_lt within h l)
 
-    pub part_comes : take (at + ports - at) (drop at f) ≡ call_at S c
+    pub part_comes : take (2 ^ k) (drop (c * 2 ^ k) f) ≡ call_at S c
     part_comes =
-        ext_get_or 0 (take (at + ports - at) (drop at f)) (call_at S c) (part_long ∙ sym (came n k (λ i. i) c h)) (λ p b.
+        ext_get_or 0 (take (2 ^ k) (drop (c * 2 ^ k) f)) (call_at S c) (part_long ∙ sym (came n k (λ i. i) c h)) (λ p b.
         let l : p < 2 ^ k = rw part_long at b in
         part_at p l ∙ sym (came_at n k (λ i. i) c p h l))
 
@@ -81,7 +86,7 @@ module _ {n k : ℕ} {s : List ℕ} (run : Runnable n k s) where
       let comes = tool_call_law edition1 n k s S (λ i. out) (fresh_stand n k) run.sized p.places p.formed (λ i l. room) (is_fresh n k) series j reach in
       rw (ap (tool_call edition1 n k s S (λ i. out) j) here.stands ∙ comes) at goes
 
-  pub call_goes : {j : ℕ} → j < 2 * T → {st st' : State} {ts ws ms ws' ms' out left : List ℕ} {a : RunAnswer} → Here n k s j st ws ms → length out ≡ 2 ^ k → ts ≡ call_at S j
+  pub call_goes : {j : ℕ} → j < 2 * T → {st st' : State} {ts ws ms ws' ms' out left : List ℕ} {a : Result Ran Refusal} → Here n k s j st ws ms → length out ≡ 2 ^ k → ts ≡ call_at S j
       → Runs edition1 n k s (lent st ts ws ms out) (record { answer = a; memory = record { words = ws'; marks = ms' }; out = left }) → st' ≡ state_after st a
       → Here n k s (suc j) st' ws' ms' × (left ≡ over_front (leaves_in n k s j) out)
   unfolding standing

@@ -6,8 +6,9 @@
 --   IsTried e n k C s f       s is the planned sheet; f is the words in lamp order, and tick by tick what the run of s hands out
 --   trial_table e n k C s f    1 to 4, where the sheet s and the frame f are lent
 --   Tries e n k C s s' f f' r     the trial: r is the lowest of 1 to 4 that applies; done, the order is tried with s' and f'; refused, s' is s and f' is f
-use Rattle.std.specs.Prelude.{ℕ, ◌+◌, ◌^◌, ◌<◌, ◌≡◌, List, [], ◌∷◌, ◌++◌, length}
+use Rattle.std.specs.Prelude.{ℕ, ◌+◌, ◌^◌, ◌<◌, ◌≡◌, List, [], ◌∷◌, ◌++◌, length, Result}
 use Rattle.std.proofs.Math.Decide.{ℕ_discrete}
+use Rattle.kinds.specs.declared.Refusal.{Refusal}
 use Rattle.kinds.specs.Answers.{Answers}
 use Rattle.kinds.specs.Edition.{Edition, Sized}
 use Rattle.kinds.specs.Decisions.{sized?}
@@ -16,7 +17,6 @@ use Rattle.kinds.specs.First.{Reason}
 use Rattle.kinds.specs.Refusal.{said}
 use Rattle.kinds.specs.Decided.{some_below}
 use Rattle.kinds.specs.Search.{found}
-use Rattle.kinds.specs.declared.Answer.{Answer}
 use Rattle.kinds.specs.Lengths.{exactly}
 use Rattle.order.specs.Order.{place}
 use Rattle.order.specs.Table.{order_table}
@@ -45,5 +45,5 @@ pub record IsTried (e : Edition) (n k : ℕ) (C s f : List ℕ) : Type 0 where
 abbrev pub trial_table : Edition → ℕ → ℕ → List ℕ → List ℕ → List ℕ → List Reason
 trial_table e n k C s f = order_table (Sized e n k) (sized? e n k) n C (sheet_lengths e s ++ (length f, exactly (2 ^ n)) ∷ [])
 
-abbrev pub Tries : Edition → ℕ → ℕ → List ℕ → List ℕ → List ℕ → List ℕ → List ℕ → Answer → Type 0
+abbrev pub Tries : Edition → ℕ → ℕ → List ℕ → List ℕ → List ℕ → List ℕ → List ℕ → Result Unit Refusal → Type 0
 Tries e n k C s s' f f' r = Answers (trial_table e n k C s f) (said r) (IsTried e n k C s' f') ((s' ≡ s) × (f' ≡ f))

@@ -21,4 +21,6 @@ parts h l k r t =
     ]
 
 pub returns : goal.returns
-returns c = parts c.args.high c.args.low c.args.k c.two_to.result c.two_to.ensures
+returns c =
+    let whole : c.from.result * c.from-2.result + c.from-3.result ≡ c.args.high * c.two_to.result + c.args.low = cc in
+    rw whole (parts c.args.high c.args.low c.args.k c.two_to.result c.two_to.ensures)

@@ -6,4 +6,4 @@ use Rattle.told.proofs.BesidesLaws.{answers_as_sizes}
 use Rattle.board.proofs.board_inspect.Goals as goal
 
 pub returns-then-said-ne3 : goal.returns-then-said-ne3
-returns-then-said-ne3 c = answers_as_sizes (sized? edition1 c.args.n c.args.k) c.sized-sized.ensures c.if-said-ne3.true c.wrong_length.ensures tt refl
+returns-then-said-ne3 c = answers_as_sizes (sized? edition1 c.args.n c.args.k) c.sized.ensures c.if-said-ne3.true c.wrong_length.ensures tt refl

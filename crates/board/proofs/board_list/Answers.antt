@@ -9,5 +9,5 @@ use Rattle.board.proofs.board_list.Goals as goal
 pub returns-then-said-ne3 : goal.returns-then-said-ne3
 returns-then-said-ne3 c = λ d.
     let not = c.if-said-ne3.true in
-    let (number, kept) = no_text c.list-answer.result c.list-answer.ensures (omega arith) d ((length c.args.said.now, exactly 3) ∷ []) (λ right. not right.0) in
+    let (number, kept) = no_text c.list.result c.list.ensures (omega arith) d ((length c.args.said.now, exactly 3) ∷ []) (λ right. not right.0) in
     answers_as_wrong not (c.tell.ensures.number ∙ ap given number) (refl, kept) (c.tell.ensures.places.others not)

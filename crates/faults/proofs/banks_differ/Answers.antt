@@ -34,11 +34,11 @@ module _ {k : ℕ} {cs : List ℕ} {seen p b : ℕ} (i : Passed k cs seen p) (ba
     apart = below_more _ p i.apart (λ j (l, same). fresh j l (same ∙ sym bank));
   }
 
-pub loop-p-preserved : goal.loop-p-preserved
-loop-p-preserved c =
-    let cell = get_or c.args.cells.now c.loop-p.p 0 in
+pub loop-cell-preserved : goal.loop-cell-preserved
+loop-cell-preserved c =
+    let cell = get_or c.args.cells.now c.loop-cell.cell-index 0 in
     more
-    c.loop-p.invariant
-    (c.bank_bits-mask.ensures cell (omega (arith, c.type_inv.cells c.loop-p.p)))
+    c.loop-cell.invariant
+    (c.bank_bits-mask.ensures cell (omega (arith, c.type_inv.cells c.loop-cell.cell-index)))
     (omega (arith, mod-lt cell (pow_pos c.args.k), c.requires))
     (λ e. omega arith)

@@ -1,5 +1,5 @@
 -- The bits of `seen` are the banks of the ports passed, of which no two want one bank.
-use Rattle.std.proofs.Common.{ℕ, ◌≡◌, ◌-◌, ◌<◌, List, length, get_or}
+use Rattle.std.proofs.Common.{ℕ, ◌≡◌, ◌<◌, List, get_or}
 use Rattle.kinds.specs.Frame.{bank_of}
 use Rattle.bits.specs.Parity.{bit}
 use Rattle.faults.specs.Faults.{WantOneBank}
@@ -13,8 +13,5 @@ pub record Passed (k : ℕ) (cs : List ℕ) (seen p : ℕ) : Type 0 where
   pub ports : (b : ℕ) → bit b seen ≡ 1 → (i : ℕ) × (i < p) × (bank_at k cs i ≡ b)
   pub apart : (q : ℕ) → q < p → (i : ℕ) → ¬ WantOneBank k cs i q
 
-abbrev pub invariant-loop-p : goal.invariant-loop-p
-invariant-loop-p l = Passed l.k l.cells l.seen l.p
-
-abbrev pub decreases-loop-p : goal.decreases-loop-p
-decreases-loop-p l = length l.cells - l.p
+abbrev pub invariant-loop-cell : goal.invariant-loop-cell
+invariant-loop-cell l = Passed l.k l.cells l.seen l.cell-index

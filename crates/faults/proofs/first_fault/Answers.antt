@@ -1,9 +1,7 @@
 -- It goes down the table of 2 and 11 to 14; past each test the reason does not apply.
-use Rattle.std.proofs.Common.{ℕ, ◌≡◌, ◌≤◌, ◌-◌, Bool, true, false, cond, List, [], ◌∷◌, length, take, refl, sym, ap, ◌∙◌, arith}
+use Rattle.std.proofs.Common.{ℕ, ◌≡◌, ◌≤◌, Bool, true, false, cond, List, [], ◌∷◌, length, Option, Some, None, refl, sym, ◌∙◌, arith}
 use mathlib.Core.Option.{none, some}
 use native.Mathlib.Decide.{dec_le}
-use native.Mathlib.Nat.{sub-zero}
-use lib.Seq.{take-length}
 use Rattle.kinds.specs.Answers.{if_holds}
 use Rattle.kinds.specs.First.{Reason, first_of}
 use Rattle.kinds.specs.declared.Port.{Port}
@@ -14,27 +12,26 @@ use Rattle.kinds.proofs.FirstLaws.{first_nil, first_take, first_skip}
 use Rattle.faults.specs.Marks.{with_marks}
 use Rattle.faults.specs.Faults.{SomeMarked, judged_on, most_cells}
 use Rattle.faults.specs.Table.{first_pair_of, clash, overwrite, empty_read, fault_table}
-use Rattle.faults.specs.declared.Pair.{Pair}
-use Rattle.faults.specs.declared.Pair.TheVariants.{Nowhere, Between}
 use Rattle.faults.proofs.MarkLaws.{put_nil}
-use Rattle.faults.proofs.FaultLaws.{pair_clash, first_pair_named, pair_nowhere, pair_between, pair_counted}
+use Rattle.faults.proofs.FaultLaws.{pair_clash, first_pair_named, pair_none, pair_some, pair_counted}
 use Rattle.faults.proofs.first_fault.Goals as goal
+use Rattle.faults.proofs.first_fault.Goals.{then-after, else-after}
 
-clash_given : (F : Port → Port → Refusal) (k : ℕ) (cs : List ℕ) (rest : List Reason) {p q : Port} → first_pair_of k cs ≡ Between p q
+clash_given : (F : Port → Port → Refusal) (k : ℕ) (cs : List ℕ) (rest : List Reason) {p q : Port} → first_pair_of k cs ≡ Some (p, q)
     → first_of (clash F k cs ∷ rest) ≡ some (F p q)
 clash_given F k cs rest {p} {q} e =
-    let pair = (pair_between k cs p q).0 e in
+    let pair = (pair_some k cs p q).0 e in
     let (first, second) = first_pair_named pair in
     first_take _ rest (pair_clash pair) ∙ rw (second, first)
 
 -- the marks after those cells were emptied that were freed
-judged : (after : Bool) (reads l : List ℕ) (m : ℕ) → m ≡ cond after (length reads) 0 → with_marks 0 (take (m - 0) reads) l ≡ judged_on after reads l
-judged true reads l m e = ap (λ (i : ℕ). with_marks 0 (take i reads) l) (sub-zero m ∙ e) ∙ ap (λ (x : List ℕ). with_marks 0 x l) (take-length reads)
-judged false reads l m e = ap (λ (i : ℕ). with_marks 0 (take i reads) l) (sub-zero m ∙ e) ∙ put_nil _ l
+judged : (after : Bool) (reads l : List ℕ) {freed : List ℕ} → freed ≡ cond after reads [] → with_marks 0 freed l ≡ judged_on after reads l
+judged true reads l e = rw e
+judged false reads l e = rw e (put_nil _ l)
 
 -- what `first_pair` answers
-abbrev counted : ℕ → List ℕ → Pair
-counted k cs = if_holds (dec_le (length cs) most_cells) (first_pair_of k cs) Nowhere
+abbrev counted : ℕ → List ℕ → Option (Port × Port)
+counted k cs = if_holds (dec_le (length cs) most_cells) (first_pair_of k cs) None
 
 module _ (after : Bool) (k : ℕ) (writes reads marks : List ℕ) (written_few : length writes ≤ most_cells) (read_few : length reads ≤ most_cells) where
   abbrev from14 : List Reason
@@ -52,19 +49,19 @@ module _ (after : Bool) (k : ℕ) (writes reads marks : List ℕ) (written_few :
   past_2 : Left (clash WriteClash k writes ∷ from12)
   past_2 = first_skip _ _ (λ many. many (record { written = written_few; read = read_few }))
 
-  stop_11 : {p q : Port} → Between p q ≡ counted k writes → some (WriteClash p q) ≡ first_of (fault_table after k writes reads marks)
+  stop_11 : {p q : Port} → Some (p, q) ≡ counted k writes → some (WriteClash p q) ≡ first_of (fault_table after k writes reads marks)
   stop_11 e = sym (past_2 ∙ clash_given WriteClash k writes _ (sym (e ∙ pair_counted k writes written_few)))
 
   -- 11 does not apply
-  module _ (written : Nowhere ≡ counted k writes) {m : ℕ} (freed : m ≡ cond after (length reads) 0) where
+  module _ (written : None ≡ counted k writes) {freed : List ℕ} (emptied : freed ≡ cond after reads []) where
     past_11 : Left from12
-    past_11 = past_2 ∙ first_skip _ _ ((pair_nowhere k writes).0 (sym (written ∙ pair_counted k writes written_few)))
+    past_11 = past_2 ∙ first_skip _ _ ((pair_none k writes).0 (sym (written ∙ pair_counted k writes written_few)))
 
     abbrev Overwrites : Type 0
-    Overwrites = SomeMarked true (with_marks 0 (take (m - 0) reads) marks) writes
+    Overwrites = SomeMarked true (with_marks 0 freed marks) writes
 
-    on : with_marks 0 (take (m - 0) reads) marks ≡ judged_on after reads marks
-    on = judged after reads marks m freed
+    on : with_marks 0 freed marks ≡ judged_on after reads marks
+    on = judged after reads marks emptied
 
     stop_12 : Overwrites → some Overwrite ≡ first_of (fault_table after k writes reads marks)
     stop_12 o = let (p, h, filled) = rw on at o in sym (past_11 ∙ first_take _ _ (p, h, filled.0 refl))
@@ -74,13 +71,13 @@ module _ (after : Bool) (k : ℕ) (writes reads marks : List ℕ) (written_few :
       past_12 : Left from13
       past_12 = past_11 ∙ first_skip _ _ (λ (p, h, filled). fresh (rw on (p, h, says_yes filled)))
 
-      stop_13 : {p q : Port} → Between p q ≡ counted k reads → some (ReadClash p q) ≡ first_of (fault_table after k writes reads marks)
+      stop_13 : {p q : Port} → Some (p, q) ≡ counted k reads → some (ReadClash p q) ≡ first_of (fault_table after k writes reads marks)
       stop_13 e = sym (past_12 ∙ clash_given ReadClash k reads _ (sym (e ∙ pair_counted k reads read_few)))
 
       -- nor does 13
-      module _ (read : Nowhere ≡ counted k reads) where
+      module _ (read : None ≡ counted k reads) where
         past_13 : Left from14
-        past_13 = past_12 ∙ first_skip _ _ ((pair_nowhere k reads).0 (sym (read ∙ pair_counted k reads read_few)))
+        past_13 = past_12 ∙ first_skip _ _ ((pair_none k reads).0 (sym (read ∙ pair_counted k reads read_few)))
 
         abbrev Empties : Type 0
         Empties = SomeMarked false (with_marks 0 [] marks) reads
@@ -92,25 +89,24 @@ module _ (after : Bool) (k : ℕ) (writes reads marks : List ℕ) (written_few :
         past_14 full = sym (past_13 ∙ first_skip _ _ (λ (p, h, empty). full (rw (put_nil [] marks) (p, h, says_no empty))) ∙ first_nil)
 
 pub returns-then-writes-gt-CELLS : goal.returns-then-writes-gt-CELLS
-returns-then-writes-gt-CELLS c = sym (first_take _ _ (λ few. omega (arith, few.written, c.if-writes-gt-CELLS.true)))
+returns-then-writes-gt-CELLS c = sym (first_take _ _ (λ few. omega (arith, few)))
 
-pub returns-then-reads-gt-CELLS : goal.returns-then-reads-gt-CELLS
-returns-then-reads-gt-CELLS c = sym (first_take _ _ (λ few. omega (arith, few.read, c.if-reads-gt-CELLS.true)))
-
-pub returns-in-Between : goal.returns-in-Between
-returns-in-Between c =
+pub returns-in-Some : goal.returns-in-Some
+returns-in-Some c =
     let x = c.args in
-    stop_11 x.after x.k x.writes.now x.reads.now x.marks.now c.if-writes-gt-CELLS.false c.if-reads-gt-CELLS.false c.in-Between.ensures
+    stop_11 x.after x.k x.writes.now x.reads.now x.marks.now c.if-writes-gt-CELLS.false c.if-reads-gt-CELLS.false c.in-Some.ensures
 
 pub returns-then-some_cell : goal.returns-then-some_cell
 returns-then-some_cell c =
     let x = c.args in
-    stop_12 x.after x.k x.writes.now x.reads.now x.marks.now c.if-writes-gt-CELLS.false c.if-reads-gt-CELLS.false c.in_default.ensures c.cells_freed-freed.ensures (c.some_cell.ensures.0 c.if-some_cell.true)
+    stop_12 x.after x.k x.writes.now x.reads.now x.marks.now c.if-writes-gt-CELLS.false c.if-reads-gt-CELLS.false c.in_default.ensures
+    (elim c.if-after.branch [ then-after w ↦ cc | else-after w ↦ cc ]) (c.some_cell.ensures.0 c.if-some_cell.true)
 
-pub returns-in-Between-read_pair : goal.returns-in-Between-read_pair
-returns-in-Between-read_pair c =
+pub returns-in-Some-first_pair : goal.returns-in-Some-first_pair
+returns-in-Some-first_pair c =
     let x = c.args in
-    stop_13 x.after x.k x.writes.now x.reads.now x.marks.now c.if-writes-gt-CELLS.false c.if-reads-gt-CELLS.false c.in_default.ensures c.cells_freed-freed.ensures (denied c.some_cell.ensures c.if-some_cell.false) c.in-Between-read_pair.ensures
+    stop_13 x.after x.k x.writes.now x.reads.now x.marks.now c.if-writes-gt-CELLS.false c.if-reads-gt-CELLS.false c.in_default.ensures
+    (elim c.if-after.branch [ then-after w ↦ cc | else-after w ↦ cc ]) (denied c.some_cell.ensures c.if-some_cell.false) c.in-Some-first_pair.ensures
 
 pub returns-then-some_cell-2 : goal.returns-then-some_cell-2
 returns-then-some_cell-2 c =
@@ -120,9 +116,9 @@ returns-then-some_cell-2 c =
     c.if-writes-gt-CELLS.false
     c.if-reads-gt-CELLS.false
     c.in_default.ensures
-    c.cells_freed-freed.ensures
+    (elim c.if-after.branch [ then-after w ↦ cc | else-after w ↦ cc ])
     (denied c.some_cell.ensures c.if-some_cell.false)
-    c.in_default-read_pair.ensures
+    c.in_default-first_pair.ensures
     (c.some_cell-2.ensures.0 c.if-some_cell-2.true)
 
 pub returns : goal.returns
@@ -133,7 +129,7 @@ returns c =
     c.if-writes-gt-CELLS.false
     c.if-reads-gt-CELLS.false
     c.in_default.ensures
-    c.cells_freed-freed.ensures
+    (elim c.if-after.branch [ then-after w ↦ cc | else-after w ↦ cc ])
     (denied c.some_cell.ensures c.if-some_cell.false)
-    c.in_default-read_pair.ensures
+    c.in_default-first_pair.ensures
     (denied c.some_cell-2.ensures c.if-some_cell-2.false)

@@ -3,4 +3,4 @@ use Rattle.std.proofs.Common.{arith, pow_mono}
 use Rattle.faults.proofs.first_pair.Goals as goal
 
 pub banks_differ-requires : goal.banks_differ-requires
-banks_differ-requires c = omega (arith, pow_mono {i = c.args.k} {j = 6} c.if-k-gt-SMALL.false)
+banks_differ-requires c = omega (arith, pow_mono {i = c.args.k} {j = 6} c.if-k-le-SMALL.true)

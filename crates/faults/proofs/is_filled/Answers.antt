@@ -1,35 +1,33 @@
-use Rattle.std.proofs.Common.{ℕ, ◌≡◌, ◌≢◌, ◌<◌, ◌≤◌, List, length, get_or, sym, ◌∙◌, arith}
-use lib.ListN.{get_or-eq_default}
-use Rattle.kinds.proofs.TruthLaws.{says_no, says_yes}
+use Rattle.std.proofs.Common.{ℕ, ◌≡◌, ◌≢◌, Bool, true, false, not, eqb, List, get_or, sym, ◌∙◌, arith, eq-eqb, eqb-true}
+use Rattle.std.specs.List.{IsAnyAnswer}
+use Rattle.std.proofs.lemmas.Grind.{common_steps}
+use Rattle.kinds.specs.Answers.{Says}
+use Rattle.kinds.proofs.TruthLaws.{false≢true, says_no, says_yes}
 use Rattle.faults.specs.Marks.{Filled, with_marks}
-use Rattle.faults.proofs.MarkLaws.{put_length, put_other, zero_stays, marked_zero}
-use Rattle.faults.proofs.is_filled.Invariants.{Passed}
+use Rattle.faults.proofs.MarkLaws.{put_other, zero_stays, marked_zero}
 use Rattle.faults.proofs.is_filled.Goals as goal
+use Rattle.faults.proofs.is_filled.Goals.{then-at-marks, else-at-marks}
 
-beyond : (freed marks : List ℕ) (cell : ℕ) → length marks ≤ cell → ¬ Filled (with_marks 0 freed marks) cell
-beyond freed marks cell h filled = filled (get_or-eq_default (with_marks 0 freed marks) 0 (rw (put_length freed _ marks) h))
+module _ (freed marks : List ℕ) (cell : ℕ) where
+  abbrev Stays : Type 0
+  Stays = Filled (with_marks 0 freed marks) cell
 
-empty : (freed marks : List ℕ) (cell : ℕ) → get_or marks cell 0 ≡ 0 → ¬ Filled (with_marks 0 freed marks) cell
-empty freed marks cell e filled = filled (zero_stays freed marks cell e)
+  empty : get_or marks cell 0 ≡ 0 → ¬ Stays
+  empty e stays = stays (zero_stays freed marks cell e)
 
-freed_now : (freed marks : List ℕ) (cell q : ℕ) → q < length freed → get_or freed q 0 ≡ cell → ¬ Filled (with_marks 0 freed marks) cell
-freed_now freed marks cell q h e filled = filled (rw e at (marked_zero freed marks q h))
+  unless_freed : (r : Bool) → IsAnyAnswer (λ y b. eqb y cell ≡ b) freed r → get_or marks cell 0 ≢ 0 → Says (not r) Stays
+  unless_freed true (q, h, same) filled = says_no (λ stays. stays (rw (eqb-true _ _ (same 0)) at (marked_zero freed marks q h)))
+  unless_freed false other filled =
+      says_yes (λ e. filled (sym (put_other freed _ marks cell (λ q h same. false≢true (sym (other q 0 (omega arith) h) ∙ eq-eqb _ _ same))) ∙ e))
 
-still : (freed marks : List ℕ) (cell q : ℕ) → Passed cell freed q → length freed ≤ q → get_or marks cell 0 ≢ 0 → Filled (with_marks 0 freed marks) cell
-still freed marks cell q i h filled e = filled (sym (put_other freed _ marks cell (λ p l. i.other p (omega arith))) ∙ e)
+pub returns-then-marked : goal.returns-then-marked
+returns-then-marked c =
+    unless_freed c.args.freed.now c.args.marks.now c.args.cell c.contains.result c.contains.ensures.cases
+    (elim c.if-at-marks.branch [ then-at-marks w ↦ grind (arith, common_steps) | else-at-marks w ↦ grind (arith, common_steps) ])
 
-pub returns-then-marks-at : goal.returns-then-marks-at
-returns-then-marks-at c = let args = c.args in says_no (beyond args.freed.now args.marks.now args.cell c.if-marks-at.true)
-
-pub returns-then-marks-at-eq0 : goal.returns-then-marks-at-eq0
-returns-then-marks-at-eq0 c = let args = c.args in says_no (empty args.freed.now args.marks.now args.cell c.if-marks-at-eq0.true)
-
-pub returns-then-freed-q : goal.returns-then-freed-q
-returns-then-freed-q c =
-    let args = c.args in
-    says_no (freed_now args.freed.now args.marks.now args.cell c.loop-q.q c.loop-q-test.true c.if-freed-q.true)
-
-pub returns : goal.returns
-returns c =
-    let args = c.args in
-    says_yes (still args.freed.now args.marks.now args.cell c.loop-q.q c.loop-q.invariant c.loop-q-test.false c.if-marks-at-eq0.false)
+pub returns-else-marked : goal.returns-else-marked
+returns-else-marked c =
+    rw c.if-marked.false
+    (says_no
+    (empty c.args.freed.now c.args.marks.now c.args.cell
+    (elim c.if-at-marks.branch [ then-at-marks w ↦ grind (arith, common_steps) | else-at-marks w ↦ grind (arith, common_steps) ])))

@@ -1,50 +1,41 @@
-use Rattle.std.proofs.Common.{ℕ, ◌+◌, ◌*◌, ◌≡◌, ◌≤◌, ◌<◌, min, sym, ap, ap₂, ◌∙◌, List, [], ◌∷◌, ◌++◌, length, get_or, take, set, length-take, length-take-le, take_all, take-suc, add-one, arith}
-use native.Mathlib.Decide.{dec_le}
-use Rattle.kinds.specs.Edition.{edition1}
-use Rattle.bits.specs.Padded.{array_width, padded}
-use Rattle.sheet.specs.Sheet.{Stage, flat}
-use Rattle.sheet.proofs.LayLaws.{stage_more}
-use Rattle.lay.specs.Staged.{pairs, staged}
-use Rattle.lay.specs.declared.Stages.{Stages}
-use Rattle.lay.proofs.PairLaws.{pairs_least, pairs_at}
-use Rattle.lay.proofs.pair_up.Invariants.{Paired}
+use Rattle.std.proofs.Common.{ℕ, ◌≡◌, ◌≤◌, ◌<◌, sym, inl, inr, List, [], ◌∷◌, ◌++◌, length, take, take_all, take_at, append_assoc, append-nil, arith}
+use Rattle.std.proofs.lemmas.List.{nil_from_length}
+use native.Mathlib.Decide.{dec_lt}
+use borrow.Author.Tests.{false-eqb, true-eqb}
+use Rattle.sheet.specs.declared.Stage.{Stage}
+use Rattle.lay.specs.Staged.{pairs}
+use Rattle.lay.proofs.PairLaws.{pairs_least}
 use Rattle.lay.proofs.pair_up.Goals as goal
 
-module _ {ds cs : List ℕ} {count : ℕ} {numbers : List ℕ} {s : ℕ} (i : Paired ds cs count numbers s) where
-  abbrev all : List Stage
-  all = pairs ds cs
+module _ (items : List Stage) where
+  more : {d c : ℕ} {a b x y : List ℕ} {next all : List Stage} → (a ≡ d ∷ x) × (b ≡ c ∷ y) → next ≡ items ++ (record { direction = d; control = c } ∷ [])
+      → items ++ pairs a b ≡ all → next ++ pairs x y ≡ all
+  unfolding pairs
+  more (first, second) is e = let left = rw second at (rw first at e) in rw (is, append_assoc) left
 
-  size : length all ≡ min (length ds) (length cs)
-  size = pairs_least ds cs
+  -- the stages are as many as a side may have, or none is left
+  done : (rest : List Stage) {all : List Stage} → length items ≤ 8 → (length items < 8 → length rest ≡ 0) → items ++ rest ≡ all → items ≡ take 8 all
+  done rest few last e = elim (dec_lt (length items) 8) [
+    | yes less ↦
+        let none = nil_from_length rest (last less) in
+        let whole = rw append-nil at (rw none at e) in
+        rw (← whole) (sym (take_all 8 items few))
+    | no full ↦ rw (← e) (sym (take_at items rest 8 (omega arith)))
+  ]
 
-  more : s < count → Paired ds cs count (set (set numbers (2 * s) (get_or ds s 0)) (2 * s + 1) (get_or cs s 0)) (s + 1)
-  more h =
-      let stage : Stage = record { direction = get_or ds s 0; control = get_or cs s 0 } in
-      let here : length (take s all) ≡ s = length-take-le s all (omega (arith, size, i.last)) in
-      let next : take s all ++ (stage ∷ []) ≡ take (s + 1) all =
-      ap (λ (t : Stage). take s all ++ (t ∷ [])) (sym (pairs_at ds cs s stage (omega (arith, i.last)) (omega (arith, i.last))))
-      ∙ sym (take-suc all s stage (omega (arith, size, i.last)))
-      ∙ ap (λ (m : ℕ). take m all) (sym (add-one s)) in
-      record {
-        last = i.last;
-        within = omega arith;
-        so_far =
-            ap₂ (λ (ns : List ℕ) (m : ℕ). set (set ns (2 * m) (get_or ds s 0)) (2 * m + 1) (get_or cs s 0)) i.so_far (sym here)
-            ∙ stage_more array_width (take s all) stage (omega (arith, here, i.last))
-            ∙ ap (λ (ss : List Stage). padded (flat ss)) next;
-      }
+pub loop-direction-preserved : goal.loop-direction-preserved
+loop-direction-preserved c = record {
+  few = omega (arith, false-eqb _ _ c.if-is_full.ensures.value);
+  left = more _ c.in-Some.ensures.steps c.push.ensures.items c.loop-direction.invariant.left;
+}
 
-  done : count ≤ s → ◌≡◌ {A = Stages} (record { numbers = numbers; count = count }) (staged (take edition1.most_stages all))
-  done end =
-      let ends : take s all ≡ take edition1.most_stages all = elim (dec_le (length all) edition1.most_stages) [
-        | yes h ↦ take_all s all (omega (arith, size, i.last)) ∙ sym (take_all edition1.most_stages all h)
-        | no h ↦ ap (λ (m : ℕ). take m all) {x = s} {y = edition1.most_stages} (omega (arith, size, i.last, i.within))
-      ] in
-      ap₂ (λ (ns : List ℕ) (m : ℕ). record { numbers = ns; count = m }) (i.so_far ∙ ap (λ (ss : List Stage). padded (flat ss)) ends)
-      (omega (arith, size, i.last, length-take edition1.most_stages all))
+pub returns-in-None : goal.returns-in-None
+returns-in-None c =
+    let iterator = c.loop-direction.direction-iterator in
+    let least = pairs_least iterator.a.rest.now iterator.b.rest.now in
+    done _ _ c.loop-direction.invariant.few (λ _. elim c.in-None.ensures.steps [ inl (_, none) ↦ omega arith | inr (_, none) ↦ omega arith ])
+    c.loop-direction.invariant.left
 
-pub loop-s-preserved : goal.loop-s-preserved
-loop-s-preserved c = more c.loop-s.invariant c.loop-s-test.true
-
-pub returns : goal.returns
-returns c = done c.loop-s.invariant c.loop-s-test.false
+pub returns-then-is_full : goal.returns-then-is_full
+returns-then-is_full c =
+    done _ _ c.loop-direction.invariant.few (λ less. omega (arith, true-eqb _ _ c.if-is_full.ensures.value)) c.loop-direction.invariant.left

@@ -22,24 +22,24 @@ shorter : (number : ℕ) → 10 ≤ number → length (decimal (number / 10)) �
 shorter number h = omega (arith, length-append (decimal (number / 10)) (last number), ap length (decimal_more number h))
 
 pub put_digits-place-requires : goal.put_digits-place-requires
-put_digits-place-requires t c = omega (arith, shorter c.args.number c.if-number-ge10.true)
+put_digits-place-requires t c = omega (arith, shorter c.args.number (omega arith))
 
 pub bounds-text-place : goal.bounds-text-place
 bounds-text-place t c = elim c.if-number-ge10.branch [
-  | then-number-ge10 w ↦ omega (arith, more c.requires w.if-number-ge10.true w.put_digits-place.ensures w.place-is w.text-is)
+  | then-number-ge10 w ↦ omega (arith, more c.requires (omega arith) w.put_digits-place.ensures w.place-is w.text-is)
   | else-number-ge10 w ↦ omega (arith, small c.requires (omega arith) w.place-is w.text-is)
 ]
 
 pub overflow_add-result : goal.overflow_add-result
 overflow_add-result t c = elim c.if-number-ge10.branch [
-  | then-number-ge10 w ↦ omega (arith, more c.requires w.if-number-ge10.true w.put_digits-place.ensures w.place-is w.text-is)
+  | then-number-ge10 w ↦ omega (arith, more c.requires (omega arith) w.put_digits-place.ensures w.place-is w.text-is)
   | else-number-ge10 w ↦ omega (arith, small c.requires (omega arith) w.place-is w.text-is)
 ]
 
 pub returns : goal.returns
 returns t c =
     let left : Left (decimal c.args.number) c.args.at c.args.text.now (last c.args.number) c.if-number-ge10.place c.if-number-ge10.text = elim c.if-number-ge10.branch [
-      | then-number-ge10 w ↦ more c.requires w.if-number-ge10.true w.put_digits-place.ensures w.place-is w.text-is
+      | then-number-ge10 w ↦ more c.requires (omega arith) w.put_digits-place.ensures w.place-is w.text-is
       | else-number-ge10 w ↦ small c.requires (omega arith) w.place-is w.text-is
     ] in
     left_done (left_more left refl writes_byte) refl

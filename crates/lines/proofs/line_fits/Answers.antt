@@ -33,14 +33,14 @@ returns-then-numbers-places c = says_yes (omega (arith, ending_length c.args.num
 
 pub overflow_add-spaced : goal.overflow_add-spaced
 overflow_add-spaced c =
-    let i = c.loop-i.i in
+    let i = c.loop-number.number-index in
     omega (arith, decimal_length 10 (get_or c.args.numbers.now i 0) (omega arith) (omega (arith, c.type_inv.numbers i)))
 
-pub returns-then-not-fits : goal.returns-then-not-fits
-returns-then-not-fits c = says_no (short c.loop-i.invariant c.loop-i-test.true c.width-spaced.ensures (denied c.has_room-fits.ensures c.if-not-fits.true))
+pub returns-then-not-has_room-2 : goal.returns-then-not-has_room-2
+returns-then-not-has_room-2 c = says_no (short c.loop-number.invariant c.loop-number-test.true c.width-spaced.ensures (denied c.has_room-in-loop-number.ensures c.if-not-has_room-2.true))
 
-pub loop-i-preserved : goal.loop-i-preserved
-loop-i-preserved c = more c.loop-i.invariant c.loop-i-test.true c.width-spaced.ensures (c.if-not-fits.ensures.0 refl)
+pub loop-number-preserved : goal.loop-number-preserved
+loop-number-preserved c = more c.loop-number.invariant c.loop-number-test.true c.width-spaced.ensures (c.if-not-has_room-2.ensures.0 refl)
 
 pub returns : goal.returns
-returns c = last c.loop-i.invariant c.loop-i-test.false
+returns c = last c.loop-number.invariant c.loop-number-test.false

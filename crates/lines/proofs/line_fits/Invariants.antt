@@ -1,5 +1,5 @@
--- The line up to the i-th number has room, and ends at `end`.
-use Rattle.std.proofs.Common.{List, ℕ, ◌≡◌, ◌+◌, ◌-◌, ◌≤◌, length, drop}
+-- The line up to the index-th number has room, and ends at `end`.
+use Rattle.std.proofs.Common.{List, ℕ, ◌≡◌, ◌+◌, ◌≤◌, length, drop}
 use Rattle.lines.specs.Line.{line_end}
 use Rattle.lines.proofs.line_fits.Given as goal
 
@@ -7,8 +7,5 @@ pub record Measures (places at name : ℕ) (ns : List ℕ) (end i : ℕ) : Type 
   pub within : end ≤ places
   pub left : end + length (line_end (drop i ns)) ≡ at + (name + length (line_end ns))
 
-abbrev pub invariant-loop-i : goal.invariant-loop-i
-invariant-loop-i l = Measures l.places l.at l.name l.numbers l.end l.i
-
-abbrev pub decreases-loop-i : goal.decreases-loop-i
-decreases-loop-i l = length l.numbers - l.i
+abbrev pub invariant-loop-number : goal.invariant-loop-number
+invariant-loop-number l = Measures l.places l.at l.name l.numbers l.end l.number-index

@@ -30,10 +30,10 @@ module _ {ns : List ℕ} {at : ℕ} {text₀ text : List ℕ} {place i : ℕ} (w
   done h = left_done (left_more w.left (ending_done ns i h) writes_byte) refl
 
 pub put_digits-place-requires : goal.put_digits-place-requires
-put_digits-place-requires c = simp length-set (omega (arith, room c.loop-i.invariant c.loop-i-test.true))
+put_digits-place-requires c = simp length-set (omega (arith, room c.loop-number.invariant c.loop-number-test.true))
 
-pub loop-i-preserved : goal.loop-i-preserved
-loop-i-preserved c = more c.loop-i.invariant c.loop-i-test.true c.put_digits-place.ensures
+pub loop-number-preserved : goal.loop-number-preserved
+loop-number-preserved c = more c.loop-number.invariant c.loop-number-test.true c.put_digits-place.ensures
 
 pub returns : goal.returns
-returns c = done c.loop-i.invariant c.loop-i-test.false
+returns c = done c.loop-number.invariant c.loop-number-test.false

@@ -28,6 +28,6 @@ others_not_4 Card other = refl
 pub returns-in_default : goal.returns-in_default
 unfolding codes
 returns-in_default c =
-    let short = one_short (codes "refused") c.number.result (omega arith) in
+    let short = one_short (codes "refused") c.into.result (omega arith) in
     rw (others_not_4 c.args.refusal c.in_default.not-Dependent)
-    (rw c.number.ensures at (prints_by (c.put_line.ensures.written (omega (arith, short))) (omega (arith, short))))
+    (rw c.into.ensures at (prints_by (c.put_line.ensures.written (omega (arith, short))) (omega (arith, short))))

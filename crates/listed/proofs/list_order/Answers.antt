@@ -1,18 +1,16 @@
 -- Where the order is planned and run, what is listed is its listing; where the trial is refused, the columns are no order.
-use Rattle.std.proofs.Common.{List, ℕ, [], ◌∷◌, ◌++◌, ◌≡◌, ◌-◌, ◌^◌, ◌≤◌, length, take, drop, refl, sym, ap, ◌∙◌, arith}
+use Rattle.std.proofs.Common.{List, ℕ, [], ◌∷◌, ◌++◌, ◌≡◌, ◌^◌, ◌≤◌, Result, Ok, Err, Some, None, length, take, refl, sym, ap, ap₂, subst, ◌∙◌, arith}
+use Rattle.std.specs.Result.{IsOk, result_ok}
 use lib.ListN.{replicate}
 use lib.Pow.{pow_mono}
+use lib.Seq.{length-take-le}
 use Rattle.kinds.specs.Edition.{edition1, Sized}
 use Rattle.kinds.specs.Decisions.{sized?}
 use Rattle.kinds.specs.Lengths.{Wanted, exactly}
-use Rattle.kinds.specs.Refusal.{said}
-use Rattle.kinds.specs.declared.Answer.{Answer}
-use Rattle.kinds.specs.declared.Answer.TheVariants.{Done}
-use Rattle.kinds.proofs.AnswerLaws.{answers_done}
-use Rattle.kinds.proofs.FrameLaws.{in_order_length}
-use Rattle.kinds.proofs.PartLaws.{part_length, part_back}
-use Rattle.kinds.proofs.TruthLaws.{denied}
-use Rattle.bits.specs.Word.{TwoTo}
+use Rattle.kinds.specs.Sizes.{AreSizes}
+use Rattle.kinds.specs.declared.Refusal.{Refusal}
+use Rattle.kinds.specs.declared.sizes.Sizes.{Sizes}
+use Rattle.kinds.proofs.AnswerLaws.{done_none, answers_done}
 use Rattle.order.specs.Order.{Order}
 use Rattle.order.proofs.TableLaws.{order_sound}
 use Rattle.sheet.specs.Table.{sheet_lengths}
@@ -32,76 +30,86 @@ few_words {n} sized = pow_mono {i = n} {j = 10} sized.frame.most
 abbrev zeros : List ℕ
 zeros = replicate 1024 0
 
--- the order is tried out
-record TriedOut (n k : ℕ) (C : List ℕ) (words : ℕ) (a : Answer) (sheet frame : List ℕ) : Type 0 where
+is_done : (r : Result Unit Refusal) → Some tt ≡ result_ok r → IsOk r
+is_done (Ok x) e = refl
+is_done (Err y) e = absurd cc
+
+not_done : (r : Result Unit Refusal) → None ≡ result_ok r → ¬ IsOk r
+not_done (Ok x) e h = cc
+not_done (Err y) e h = cc
+
+sizes_are : {n k : ℕ} (r : Result Sizes Refusal) (s : Sizes) → AreSizes n k r → Some s ≡ result_ok r → (s.n ≡ n) × (s.k ≡ k)
+sizes_are (Ok x) s (n, k) e = (cc, cc)
+sizes_are (Err y) s are e = absurd cc
+
+-- the order was tried out, within the sizes i and j, which are n and k
+record TriedOut (n k : ℕ) (C : List ℕ) (i j words : ℕ) (r : Result Unit Refusal) (sheet frame : List ℕ) : Type 0 where
+  within : Sized edition1 i j
+  sizes : (i ≡ n) × (j ≡ k)
+  is : words ≡ 2 ^ i
+  tries : Tries edition1 n k C (replicate 64 0) sheet (take words zeros) frame r
+
+module _ {n k : ℕ} {C : List ℕ} {i j words : ℕ} {r : Result Unit Refusal} {sheet frame : List ℕ} (out : TriedOut n k C i j words r sheet frame) where
   sized : Sized edition1 n k
-  is : words ≡ 2 ^ n
-  tries : Tries edition1 n k C (replicate 64 0) sheet (take (words - 0) zeros) frame a
+  sized = rw (sym out.sizes.0, sym out.sizes.1) out.within
 
-tried_out : {n k words : ℕ} (C : List ℕ) (a : Answer) (sheet frame : List ℕ) → Sized edition1 n k → TwoTo n words
-    → Tries edition1 n k C (replicate 64 0) sheet (take (words - 0) zeros) frame a → TriedOut n k C words a sheet frame
-tried_out C a sheet frame sized two tries = record { sized = sized; is = two.fits (omega (arith, sized.frame.most)); tries = tries }
+  lent : length (take words zeros) ≡ 2 ^ n
+  lent = length-take-le words zeros (omega (arith, out.is, few_words out.within)) ∙ out.is ∙ ap (λ (m : ℕ). 2 ^ m) out.sizes.0
 
-module _ {n k : ℕ} {C : List ℕ} {words : ℕ} {a : Answer} {sheet frame : List ℕ} (out : TriedOut n k C words a sheet frame) where
   abbrev lengths : List (ℕ × Wanted)
-  lengths = sheet_lengths edition1 (replicate 64 0) ++ (length (take (words - 0) zeros), exactly (2 ^ n)) ∷ []
+  lengths = sheet_lengths edition1 (replicate 64 0) ++ (length (take words zeros), exactly (2 ^ n)) ∷ []
 
-  lent : length (take (words - 0) zeros) ≡ 2 ^ n
-  lent = part_length words zeros (omega (arith, out.is, few_words out.sized)) ∙ out.is
+  tried : Order n C → IsOk r
+  tried o = answers_done r ((order_sound (sized? edition1 n k) n C lengths).1 (sized, (refl, (lent, tt)), o)) out.tries
 
-  tried : Order n C → a ≡ Done
-  tried o = answers_done ((order_sound (sized? edition1 n k) n C lengths).1 (out.sized, (refl, (lent, tt)), o)) out.tries
-
-  module _ (done : a ≡ Done) where
+  module _ (done : IsOk r) where
     order : Order n C
-    order = ((order_sound (sized? edition1 n k) n C lengths).0 (sym out.tries.is_first ∙ ap said done)).2
+    order = ((order_sound (sized? edition1 n k) n C lengths).0 (sym out.tries.is_first ∙ done_none r done)).2
 
     planned : sheet ≡ planned_sheet edition1 n k C
-    planned = (out.tries.done (ap said done)).planned.constructed
+    planned = (out.tries.done (done_none r done)).planned.constructed
 
     lamps : frame ≡ words_as_they_leave n C
-    lamps = (out.tries.done (ap said done)).frame
+    lamps = (out.tries.done (done_none r done)).frame
 
-    abbrev back : List ℕ
-    back = take (words - 0) (frame ++ drop (words - 0) zeros)
+    listable : Tried j sheet frame
+    listable = rw (out.sizes.1, planned, lamps) (planned_tried sized order)
 
-    back_is : back ≡ words_as_they_leave n C
-    back_is = part_back words zeros frame (ap length lamps ∙ in_order_length (2 ^ n) _ ∙ sym out.is) ∙ lamps
+    text : trial_text i j sheet frame ≡ listing n k C
+    text = rw (out.sizes.0, out.sizes.1, planned, lamps) (planned_text sized order)
 
-    listable : Tried k sheet back
-    listable = rw (planned, back_is) (planned_tried out.sized order)
-
-    text : trial_text n k sheet back ≡ listing n k C
-    text = rw (planned, back_is) (planned_text out.sized order)
-
-    room : (x : List ℕ) → text_places ≤ length x → RoomFor (trial_text n k sheet back) 0 x
-    room x places = omega (arith, ap length text, listing_fits out.sized order, places)
+    room : (x : List ℕ) → text_places ≤ length x → RoomFor (trial_text i j sheet frame) 0 x
+    room x places = omega (arith, ap length text, listing_fits sized order, places)
 
 pub slice_bounds-frame-end : goal.slice_bounds-frame-end
-slice_bounds-frame-end c =
-    let sized = c.if-not-sized.ensures.0 refl in
-    omega (arith, c.two_to-words.ensures.fits (omega (arith, sized.frame.most)), few_words sized)
+slice_bounds-frame-end c = omega (arith, c.words.ensures, few_words c.in_ok-sizes.sizes.sized)
 
-pub returns-then-not-is_done : goal.returns-then-not-is_done
-returns-then-not-is_done c =
-    let out = tried_out c.args.columns.now c.trial-answer.result c.trial-answer.new.sheet c.trial-answer.new.frame (c.if-not-sized.ensures.0 refl) c.two_to-words.ensures c.trial-answer.ensures in
-    record { written = λ l. absurd (denied c.is_done.ensures c.if-not-is_done.true (tried out l.order)); left = λ _. (refl, refl) }
+pub slice_bounds-frame-end-2 : goal.slice_bounds-frame-end-2
+slice_bounds-frame-end-2 c = sym (length-take-le _ zeros (omega (arith, c.words.ensures, few_words c.in_ok-sizes.sizes.sized)))
+
+pub returns-in_err-ok : goal.returns-in_err-ok
+returns-in_err-ok c =
+    let sizes = sizes_are c.new.result c.in_ok-sizes.sizes c.new.ensures.sizes c.in_ok-sizes.ensures.value in
+    let refused = not_done c.trial.result c.in_err-ok.ensures.value in
+    rw c.from_residual-in_err-ok.ensures
+    (record { written = λ l. absurd (refused (tried (record { within = c.in_ok-sizes.sizes.sized; sizes = sizes; is = c.words.ensures; tries = c.trial.ensures }) l.order)); left = λ _. (refl, refl) })
 
 pub put_trial-requires-clause-tried : goal.put_trial-requires-clause-tried
 put_trial-requires-clause-tried c =
-    let out = tried_out c.args.columns.now c.trial-answer.result c.trial-answer.new.sheet c.trial-answer.new.frame (c.if-not-sized.ensures.0 refl) c.two_to-words.ensures c.trial-answer.ensures in
-    listable out (c.is_done.ensures.0 c.if-not-is_done.false)
+    let sizes = sizes_are c.new.result c.in_ok-sizes.sizes c.new.ensures.sizes c.in_ok-sizes.ensures.value in
+    listable (record { within = c.in_ok-sizes.sizes.sized; sizes = sizes; is = c.words.ensures; tries = c.trial.ensures }) (is_done c.trial.result c.in_ok-ok.ensures.value)
 
 pub put_trial-requires-clause-room_for : goal.put_trial-requires-clause-room_for
 put_trial-requires-clause-room_for c =
-    let out = tried_out c.args.columns.now c.trial-answer.result c.trial-answer.new.sheet c.trial-answer.new.frame (c.if-not-sized.ensures.0 refl) c.two_to-words.ensures c.trial-answer.ensures in
-    room out (c.is_done.ensures.0 c.if-not-is_done.false) _ c.if-text-lt-ROOM.false
+    let sizes = sizes_are c.new.result c.in_ok-sizes.sizes c.new.ensures.sizes c.in_ok-sizes.ensures.value in
+    room (record { within = c.in_ok-sizes.sizes.sized; sizes = sizes; is = c.words.ensures; tries = c.trial.ensures }) (is_done c.trial.result c.in_ok-ok.ensures.value) _ (omega arith)
 
 pub returns : goal.returns
 returns c =
-    let out = tried_out c.args.columns.now c.trial-answer.result c.trial-answer.new.sheet c.trial-answer.new.frame (c.if-not-sized.ensures.0 refl) c.two_to-words.ensures c.trial-answer.ensures in
-    let done = c.is_done.ensures.0 c.if-not-is_done.false in
+    let sizes = sizes_are c.new.result c.in_ok-sizes.sizes c.new.ensures.sizes c.in_ok-sizes.ensures.value in
+    let done = is_done c.trial.result c.in_ok-ok.ensures.value in
+    let out : TriedOut c.args.n c.args.k c.args.columns.now c.in_ok-sizes.sizes.n c.in_ok-sizes.sizes.k c.words.result c.trial.result c.trial.new.sheet c.trial.new.frame = record { within = c.in_ok-sizes.sizes.sized; sizes = sizes; is = c.words.ensures; tries = c.trial.ensures } in
     record {
-      written = λ _. rw (← text out done) c.put_trial.ensures;
-      left = λ not. absurd (not (record { sized = out.sized; order = order out done; places = c.if-text-lt-ROOM.false }));
+      written = λ _. (c.put_trial.result, refl, rw (← text out done) c.put_trial.ensures);
+      left = λ not. absurd (not (record { sized = sized out; order = order out done; places = omega arith }));
     }

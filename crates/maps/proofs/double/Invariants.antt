@@ -1,5 +1,5 @@
 -- p places from filled on are what they are to be, and no others have changed.
-use Rattle.std.proofs.Common.{ℕ, ◌≡◌, ◌+◌, ◌-◌, ◌*◌, ◌≤◌, ◌<◌, List, length, get_or, bit_xor}
+use Rattle.std.proofs.Common.{ℕ, ◌≡◌, ◌+◌, ◌*◌, ◌≤◌, ◌<◌, List, length, get_or, bit_xor}
 use Rattle.maps.proofs.double.Given as goal
 
 pub record Doubling (m v : ℕ) (l r : List ℕ) (p : ℕ) : Type 0 where
@@ -10,6 +10,3 @@ pub record Doubling (m v : ℕ) (l r : List ℕ) (p : ℕ) : Type 0 where
 
 abbrev pub invariant-loop-p : goal.invariant-loop-p
 invariant-loop-p l = Doubling l.filled l.column l.fn.cells l.cells l.p
-
-abbrev pub decreases-loop-p : goal.decreases-loop-p
-decreases-loop-p l = l.filled - l.p

@@ -7,17 +7,18 @@ use Rattle.kinds.specs.First.{first_of}
 use Rattle.kinds.specs.declared.Refusal.{Refusal}
 use Rattle.kinds.proofs.TruthLaws.{holds_yes, denied}
 use Rattle.kinds.proofs.FirstLaws.{first_take, first_skip}
-use Rattle.kinds.proofs.AnswerLaws.{refused_by, refuses, does}
+use Rattle.kinds.proofs.AnswerLaws.{refused_by, done_by}
 use Rattle.faults.specs.Marks.{put, with_marks}
 use Rattle.faults.specs.Table.{fault_table}
 use Rattle.memory.specs.Memory.{Memory, Access, words_at, served, Fitting}
 use Rattle.memory.specs.Serving.{serve_table}
+use Rattle.std.proofs.lemmas.Result.{err_from_is_err_and}
 use Rattle.memory.proofs.MemoryLaws.{same_memory}
 use Rattle.memory.proofs.serve.Goals as goal
 
 module _ (A : Access) (m : Memory) (out : List ℕ) (fit : Fitting (length A.writes) (length A.words) (length A.reads) (length out)) where
-  past_2 : (after : Bool) (k : ℕ) {o : Option Refusal} → o ≡ first_of (fault_table after k A.writes A.reads m.marks) → o ≡ first_of (serve_table after k A m out)
-  past_2 after k e = e ∙ sym (first_skip _ _ (λ wrong. wrong fit))
+  past_2 : (after : Bool) (k : ℕ) {o : Option Refusal} → o ≡ first_of (fault_table after k A.writes A.reads m.marks) → first_of (serve_table after k A m out) ≡ o
+  past_2 after k e = first_skip _ _ (λ wrong. wrong fit) ∙ sym e
 
   abbrev room : Dec (length A.reads ≤ length out)
   room = dec_le (length A.reads) (length out)
@@ -38,13 +39,13 @@ module _ (A : Access) (m : Memory) (out : List ℕ) (fit : Fitting (length A.wri
 pub returns-then-not-fitting : goal.returns-then-not-fitting
 returns-then-not-fitting c = refused_by (first_take _ _ (denied c.fitting.ensures c.if-not-fitting.true)) (refl, refl)
 
-pub returns-then-not-sound : goal.returns-then-not-sound
-returns-then-not-sound c =
+pub returns-in_err-first_fault : goal.returns-in_err-first_fault
+returns-in_err-first_fault c =
     let x = c.args in
     let A : Access = record { writes = x.writes.now; words = x.came.now; reads = x.reads.now } in
     let m : Memory = record { words = x.words.now; marks = x.marks.now } in
-    let fit = c.fitting.ensures.0 c.if-not-fitting.false in
-    refuses (denied c.is_done-sound.ensures c.if-not-sound.true) (past_2 A m x.out.now fit x.after x.k c.first_fault-answer.ensures) (refl, refl)
+    let p = err_from_is_err_and c.from_residual.result c.from_residual.ensures.1 in
+    rw (p.1, p.2) (refused_by (past_2 A m x.out.now (c.fitting.ensures.0 c.if-not-fitting.false) x.after x.k c.in_err-first_fault.ensures) (refl, refl))
 
 pub returns : goal.returns
 returns c =
@@ -54,7 +55,6 @@ returns c =
     let fit = c.fitting.ensures.0 c.if-not-fitting.false in
     let taken = c.take_out.ensures in
     let stored = c.store.ensures in
-    does
-    (c.is_done-sound.ensures.0 c.if-not-sound.false)
-    (past_2 A m x.out.now fit x.after x.k c.first_fault-answer.ensures)
+    done_by
+    (past_2 A m x.out.now fit x.after x.k c.in_ok-first_fault.ensures)
     (both_done A m x.out.now fit taken.out_after taken.marks_after stored.words_after stored.marks_after)

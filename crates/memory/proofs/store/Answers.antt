@@ -10,7 +10,7 @@ more : {cells came words₀ marks₀ words marks words' marks' : List ℕ} {p : 
 more i h w m = rw (w, m) (record { stores = put_more i.stores h; fills = mark_more 1 i.fills h })
 
 pub loop-p-preserved : goal.loop-p-preserved
-loop-p-preserved c = more c.loop-p.invariant c.loop-p-test.true c.put_word.ensures c.put_mark.ensures
+loop-p-preserved c = more c.loop-p.invariant c.loop-p-test.true c.put_at.ensures c.put_at-in-loop-p.ensures
 
 pub returns-clause-words_after : goal.returns-clause-words_after
 returns-clause-words_after c =

@@ -1,5 +1,5 @@
 -- p words went to their cells, and p marks.
-use Rattle.std.proofs.Common.{ℕ, ◌-◌, List, length}
+use Rattle.std.proofs.Common.{ℕ, List}
 use Rattle.memory.proofs.MemoryLaws.{Putting, Marking}
 use Rattle.memory.proofs.store.Given as goal
 
@@ -9,6 +9,3 @@ pub record Storing (cells came words₀ marks₀ words marks : List ℕ) (p : �
 
 abbrev pub invariant-loop-p : goal.invariant-loop-p
 invariant-loop-p l = Storing l.cells l.came l.initial.words l.initial.marks l.words l.marks l.p
-
-abbrev pub decreases-loop-p : goal.decreases-loop-p
-decreases-loop-p l = length l.cells - l.p

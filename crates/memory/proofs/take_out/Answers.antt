@@ -1,5 +1,6 @@
 use Rattle.std.proofs.Common.{ℕ, ◌≡◌, ◌+◌, ◌<◌, List, length, get_or, set, sym, ◌∙◌, arith, zero-add, add-one}
 use native.Mathlib.Decide.{dec_le}
+use Rattle.std.proofs.lemmas.Grind.{common_steps}
 use lib.ListN.{length-map, get_or-map, length-set}
 use lib.Seq.{paste-suc}
 use Rattle.kinds.proofs.TruthLaws.{holds_yes}
@@ -11,7 +12,6 @@ use Rattle.memory.proofs.take_out.Goals as goal
 module _ {cells out₀ words marks₀ out marks : List ℕ} {p : ℕ} (i : Taking cells out₀ words marks₀ out marks p) where
   onward : p < length cells → Taking cells out₀ words marks₀ (set out p (get_or words (get_or cells p 0) 0)) (set marks (get_or cells p 0) 0) (p + 1)
   onward h = record {
-    within = omega arith;
     room = i.room;
     same = length-set out p (get_or words (get_or cells p 0) 0) ∙ i.same;
     front =
@@ -25,7 +25,7 @@ module _ {cells out₀ words marks₀ out marks : List ℕ} {p : ℕ} (i : Takin
   more h w m = rw (w, m) (onward h)
 
 pub loop-p-preserved : goal.loop-p-preserved
-loop-p-preserved c = more c.loop-p.invariant c.loop-p-test.true c.word_at.ensures c.put_mark.ensures
+loop-p-preserved c = more c.loop-p.invariant c.loop-p-test.true (grind (arith, common_steps)) c.put_at.ensures
 
 pub returns-clause-marks_after : goal.returns-clause-marks_after
 returns-clause-marks_after c =

@@ -15,7 +15,7 @@ abbrev zeros : ℕ → ℕ
 zeros = count_trailing_zeros 64
 
 start : {n : ℕ} {C f s g : List ℕ} → TwoFrames n C f g → Steps C s → Moving n C f s g 0 0
-start {C} frames steps = record { frames = frames; steps = steps; here = λ _. sym (image_zero C); each = below_none _ }
+start {C} frames steps = record { frames = frames; steps = steps; here = λ _. sym (image_zero C); inside = λ l. omega (arith, frames.leaves); each = below_none _ }
 
 module _ {n : ℕ} {C f s g : List ℕ} {p i : ℕ} (m : Moving n C f s g p i) (h : i < length f) where
   word : i < 2 ^ n
@@ -26,9 +26,6 @@ module _ {n : ℕ} {C f s g : List ℕ} {p i : ℕ} (m : Moving n C f s g p i) (
 
   at_place : p ≡ place C i
   at_place = m.here word
-
-  target : p < length g
-  target = omega (arith, at_place, (order_bijection m.frames.order).into i word)
 
   next : zeros (i + 1) < most_scanned + 1
   next = trailing_lt 64 (most_scanned + 1) (i + 1) (omega arith) (omega (arith, word, narrow)) (omega arith)
@@ -52,16 +49,14 @@ module _ {n : ℕ} {C f s g : List ℕ} {p i : ℕ} (m : Moving n C f s g p i) (
     };
     steps = m.steps;
     here = step;
+    inside = λ l. omega (arith, step l, (order_bijection m.frames.order).into (i + 1) l, length-set g p (get_or f i 0), m.frames.leaves);
     each =
         below_more _ i (λ l k. get_or-set_other g p (place C l) (get_or f i 0) 0 (apart l k) ∙ m.each l k)
-        (rw (← at_place) (get_or-set_same g p (get_or f i 0) 0 target));
+        (rw (← at_place) (get_or-set_same g p (get_or f i 0) 0 (m.inside word)));
   }
 
 pub loop-i-init : goal.loop-i-init
 loop-i-init c = start c.requires c.steps_of-steps.ensures
-
-pub bounds-out-at : goal.bounds-out-at
-bounds-out-at c = target c.loop-i.invariant c.loop-i-test.true
 
 pub bounds-steps-zeros : goal.bounds-steps-zeros
 bounds-steps-zeros c = next c.loop-i.invariant c.loop-i-test.true

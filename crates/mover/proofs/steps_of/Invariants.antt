@@ -10,6 +10,3 @@ pub record Stepped (C s : List ℕ) (sum j : ℕ) : Type 0 where
 
 abbrev pub invariant-loop-j : goal.invariant-loop-j
 invariant-loop-j l = Stepped l.columns l.steps l.sum l.j
-
-abbrev pub decreases-loop-j : goal.decreases-loop-j
-decreases-loop-j l = length l.columns - l.j

@@ -1,18 +1,17 @@
 use Rattle.kinds.specs.Edition.{edition1}
 use Rattle.kinds.specs.Decisions.{sized_n?}
 use Rattle.kinds.proofs.TruthLaws.{denied}
-use Rattle.kinds.proofs.AnswerLaws.{not_both}
 use Rattle.order.proofs.TableLaws.{outside_sizes_law, within_sizes}
 use Rattle.order.proofs.check_and_scan.Goals as goal
 
 pub returns-then-not-sized_n : goal.returns-then-not-sized_n
 returns-then-not-sized_n c = record {
-  answer = outside_sizes_law (sized_n? edition1 c.args.n) _ c.args.columns.now _ (denied c.sized_n.ensures c.if-not-sized_n.true) c.refused.ensures;
-  holds = λ d. not_both d c.refused.ensures;
+  answer = outside_sizes_law (sized_n? edition1 c.args.n) _ _ _ (denied c.sized_n.ensures c.if-not-sized_n.true);
+  holds = tt;
 }
 
 pub returns : goal.returns
 returns c = record {
-  answer = within_sizes (sized_n? edition1 c.args.n) _ c.args.columns.now _ (c.sized_n.ensures.0 c.if-not-sized_n.false) c.check_columns.ensures;
+  answer = within_sizes (sized_n? edition1 c.args.n) _ _ _ _ (c.sized_n.ensures.0 c.if-not-sized_n.false) c.check_columns.ensures.answer;
   holds = c.check_columns.ensures.holds;
 }

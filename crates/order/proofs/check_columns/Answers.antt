@@ -1,76 +1,81 @@
 -- It goes down the table from 2 to 4; past each test the reason does not apply.
-use Rattle.std.proofs.Common.{ℕ, ◌^◌, ◌≤◌, ◌≡◌, Bool, true, false, List, [], ◌∷◌, length, sym, ap, ap₂, ◌∙◌, arith}
-use mathlib.Core.Option.{Option, some}
-use Rattle.kinds.specs.Refusal.{said}
+use Rattle.std.proofs.Common.{ℕ, ◌^◌, ◌≤◌, ◌≡◌, Bool, true, List, [], ◌∷◌, length, sym, ◌∙◌, arith}
+use mathlib.Core.Option.{Option, none, some}
 use Rattle.kinds.specs.First.{first_of}
-use Rattle.kinds.specs.Lengths.{Wanted, RightLengths}
+use Rattle.kinds.specs.Lengths.{Wanted, exactly, RightLengths}
 use Rattle.kinds.specs.Answers.{Says}
-use Rattle.kinds.specs.declared.Answer.TheVariants.{Refused}
 use Rattle.kinds.specs.declared.Refusal.{Refusal}
-use Rattle.kinds.specs.declared.Refusal.TheVariants.{Length, Dependent}
-use Rattle.kinds.proofs.TruthLaws.{denied}
-use Rattle.kinds.proofs.AnswerLaws.{not_both}
+use Rattle.kinds.specs.declared.Refusal.TheVariants.{Length, TooLarge, Dependent}
+use Rattle.kinds.proofs.TruthLaws.{denied, stable}
 use Rattle.kinds.proofs.FirstLaws.{first_nil, first_take, first_skip}
 use Rattle.bits.specs.Image.{AllBelow}
+use Rattle.span.specs.Sums.{Independent}
+use Rattle.span.specs.Decisions.{independent?}
+use Rattle.span.specs.First.{first_sum}
+use Rattle.span.specs.Scan.{mask}
 use Rattle.span.specs.Tools.{most_scanned}
-use Rattle.span.proofs.ToolLaws.{scans_independent, scans_masks}
-use Rattle.rows.proofs.KeptLaws.{first_named}
-use Rattle.order.specs.Table.{column_too_large, dependent, column_table}
-use Rattle.order.specs.Inside.{ChecksColumns}
-use Rattle.order.specs.declared.Checked.{Checked}
+use Rattle.span.proofs.ToolLaws.{scans_all, scans_masks}
+use Rattle.rows.proofs.KeptLaws.{first_named, none_named}
+use Rattle.order.specs.Order.{ColumnTooLarge}
+use Rattle.order.specs.Table.{column_table}
 use Rattle.order.proofs.TableLaws.{too_large}
+use Rattle.order.proofs.check_columns.Goals.{then-not-fits-via-then-not-fits, then-not-fits-via-else-not-fits+then-columns-n}
 use Rattle.order.proofs.check_columns.Goals as goal
 
-record Gives (n : ℕ) (C : List ℕ) (fits : Bool) (o : Option Refusal) : Type 0 where
-  gives : (others : List (ℕ × Wanted)) → Says fits (RightLengths others)
-      → first_of (column_table n (C ∷ []) others) ≡ o
+module _ (n : ℕ) (C : List ℕ) (fits : Bool) where
+  abbrev Answered : Option Refusal → Type 0
+  Answered o = (others : List (ℕ × Wanted)) → Says fits (RightLengths others) → o ≡ first_of (column_table n (C ∷ []) others)
 
-module _ {n : ℕ} {C : List ℕ} {fits : Bool} where
-  refuses : {x : Refusal} {r : Checked} → r.answer ≡ Refused x → Gives n C fits (some x) → ChecksColumns n C fits r
-  refuses {x} {r} e g = record {
-    answer = λ others f. ap said e ∙ sym (g.gives others f);
-    holds = λ d. not_both d e;
-  }
+  wrong_length_law : ((others : List (ℕ × Wanted)) → Says fits (RightLengths others) → ¬ RightLengths ((length C, exactly n) ∷ others)) → Answered (some Length)
+  wrong_length_law wrong others f = sym (first_take _ _ (wrong others f))
 
-  other_length : fits ≡ false → Gives n C fits (some Length)
-  other_length wrong = record { gives = λ others f. first_take _ _ (λ right. denied f wrong right.1) }
+  module _ (fit : fits ≡ true) (count : length C ≡ n) where
+    large : ColumnTooLarge n C → Answered (some TooLarge)
+    large beyond others f = sym (first_skip _ _ (λ wrong. wrong (count, f.0 fit)) ∙ first_take _ _ beyond)
 
-  own_length : ¬ (length C ≡ n) → Gives n C fits (some Length)
-  own_length wrong = record { gives = λ others f. first_take _ _ (λ right. wrong right.0) }
+    module _ (small : AllBelow (2 ^ n) C) where
+      dependent : ¬ Independent C → Answered (some (Dependent (first_sum C) (mask C (first_sum C))))
+      dependent dep others f =
+          sym (first_skip _ _ (λ wrong. wrong (count, f.0 fit)) ∙ first_skip _ _ (λ (j, l, beyond). omega (arith, small j l, beyond)) ∙ first_take _ _ dep)
 
-  past_2 : {o : Option Refusal} → length C ≡ n → fits ≡ true → first_of (column_too_large n C ∷ dependent C ∷ []) ≡ o → Gives n C fits o
-  past_2 count fit e = record { gives = λ others f. first_skip _ _ (λ wrong. wrong (count, f.0 fit)) ∙ e }
-
-  past_3 : {o : Option Refusal} → length C ≡ n → fits ≡ true → AllBelow (2 ^ n) C → first_of (dependent C ∷ []) ≡ o → Gives n C fits o
-  past_3 count fit small e = past_2 count fit (first_skip _ _ (λ (j, l, large). omega (arith, small j l, large)) ∙ e)
+      right : Independent C → Answered none
+      right independent others f =
+          sym (first_skip _ _ (λ wrong. wrong (count, f.0 fit)) ∙ first_skip _ _ (λ (j, l, beyond). omega (arith, small j l, beyond)) ∙ first_skip _ _ (λ dep. dep independent) ∙ first_nil)
 
 pub returns-then-not-fits : goal.returns-then-not-fits
-returns-then-not-fits c = refuses c.refused.ensures (other_length c.if-not-fits.true)
+returns-then-not-fits c = record {
+  answer = wrong_length_law _ _ _ (λ others f right. elim c.then-not-fits.branch [
+    | then-not-fits-via-then-not-fits w ↦ denied f w.if-not-fits.true right.1
+    | then-not-fits-via-else-not-fits+then-columns-n w ↦ w.if-columns-n.true right.0
+  ]);
+  holds = tt;
+}
 
-pub returns-then-columns-n : goal.returns-then-columns-n
-returns-then-columns-n c = refuses c.refused-then-columns-n.ensures (own_length c.if-columns-n.true)
+pub returns-then-not-within_bits : goal.returns-then-not-within_bits
+returns-then-not-within_bits c = record {
+  answer = large _ _ _ c.if-not-fits.false c.if-columns-n.false (too_large c.args.n c.args.columns.now (denied c.within_bits.ensures c.if-not-within_bits.true));
+  holds = tt;
+}
 
-pub returns-then-not-small : goal.returns-then-not-small
-returns-then-not-small c =
-    let large = too_large c.args.n c.args.columns.now (denied c.within_bits-small.ensures c.if-not-small.true) in
-    refuses c.refused-then-not-small.ensures (past_2 c.if-columns-n.false c.if-not-fits.false (first_take _ _ large))
-
-pub returns-then-not-independent : goal.returns-then-not-independent
-returns-then-not-independent c =
+pub returns-in-Some : goal.returns-in-Some
+returns-in-Some c =
     let C = c.args.columns.now in
-    let scans = c.scan_all-scanned.ensures in
     let few : length C ≤ most_scanned = omega (arith, c.requires, c.if-columns-n.false) in
-    let dep = denied scans.says c.if-not-independent.true in
-    let (at, mask) = first_named c.first_sum-sum.ensures C (omega (arith, few, scans.places)) (scans_masks scans few) dep in
-    refuses (c.refused-then-not-independent.ensures ∙ ap₂ (λ (i m : ℕ). Refused (Dependent i m)) at mask)
-    (past_3 c.if-columns-n.false c.if-not-fits.false (c.within_bits-small.ensures.0 c.if-not-small.false) (first_take _ _ dep))
+    let named = rw (scans_masks c.scan_all-scanned.ensures few) at c.first_sum.ensures in
+    let dep : ¬ Independent C = λ independent. cc (none_named C named independent, c.in-Some.is) in
+    let sum : c.in-Some.sum ≡ record { at = first_sum C; mask = mask C (first_sum C) } = cc (first_named C named dep, c.in-Some.is) in
+    record {
+      answer = rw sum (dependent _ _ _ c.if-not-fits.false c.if-columns-n.false (c.within_bits.ensures.0 c.if-not-within_bits.false) dep);
+      holds = tt;
+    }
 
 pub returns : goal.returns
 returns c =
-    let scans = c.scan_all-scanned.ensures in
-    let says = c.if-not-independent.false in
+    let C = c.args.columns.now in
+    let few : length C ≤ most_scanned = omega (arith, c.requires, c.if-columns-n.false) in
+    let named = rw (scans_masks c.scan_all-scanned.ensures few) at c.first_sum.ensures in
+    let independent : Independent C = stable (independent? C) (λ dep. c.in_default.not-Some _ (first_named C named dep)) in
     record {
-      answer = λ others f.
-          sym ((past_3 c.if-columns-n.false c.if-not-fits.false (c.within_bits-small.ensures.0 c.if-not-small.false) (first_skip _ _ (λ d. d (scans.says.0 says)) ∙ first_nil)).gives others f);
-      holds = λ d. scans_independent scans (λ j h. (c.type_inv.columns j).fits) says;
+      answer = right _ _ _ c.if-not-fits.false c.if-columns-n.false (c.within_bits.ensures.0 c.if-not-within_bits.false) independent;
+      holds = scans_all c.scan_all-scanned.ensures few;
     }

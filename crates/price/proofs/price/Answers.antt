@@ -1,13 +1,14 @@
 -- Past the check both sides keep the layout, so that each sum is small, and no control is 0.
-use Rattle.std.proofs.Common.{true, ℕ, ◌+◌, ◌-◌, ◌*◌, ◌^◌, ◌≡◌, ◌≤◌, sym, ap, ap₂, ◌∙◌, List, [], ◌∷◌, length, get_or, take, drop, length-drop, length-take-le, get_or-take, get_or-drop, Fits, w16, w32, add-mul, mul-le-mul, pow_mono, arith}
-use Rattle.kinds.specs.Edition.{edition1, Sized}
+use Rattle.std.proofs.Common.{Ok, refl, true, ℕ, ◌+◌, ◌-◌, ◌*◌, ◌^◌, ◌≡◌, ◌≤◌, sym, ap, ap₂, ◌∙◌, List, [], ◌∷◌, length, get_or, take, drop, length-drop, length-take-le, get_or-take, get_or-drop, add-mul, pow_mono, arith}
+use Rattle.kinds.specs.Edition.{edition1, Sized, sheet_places}
+use Rattle.kinds.specs.Answers.{Checks}
+use Rattle.kinds.specs.declared.sizes.Sizes.{Sizes}
 use Rattle.kinds.specs.Frame.{tick_bits}
-use Rattle.kinds.specs.Refusal.{said}
 use Rattle.kinds.proofs.TruthLaws.{says_yes}
 use Rattle.kinds.proofs.AnswerLaws.{done_by}
-use Rattle.bits.specs.Word.{TwoTo}
 use Rattle.sheet.specs.Sheet.{count_place, stage_places, stages_in, side_of, write_places, read_places, write_side, read_side}
-use Rattle.sheet.specs.Layout.{FormedSide}
+use Rattle.sheet.specs.Layout.{FormedSide, WellFormed}
+use Rattle.sheet.specs.Table.{sheet_table}
 use Rattle.sheet.proofs.StageLaws.{formed_stage}
 use Rattle.sheet.proofs.PlaceLaws.{unused_part, last_part}
 use Rattle.sheet.proofs.TableLaws.{check_sound}
@@ -44,21 +45,8 @@ module _ (s : List ℕ) where
       → r ≡ total xor_gates_of (read_side edition1 n k s).stages
   read_gates n k e = e ∙ ap₂ (λ (m : ℕ) (x : List ℕ). total xor_gates_of (stages_in m x)) read_count read_stages_law
 
-power : {n k r : ℕ} → Sized edition1 n k → TwoTo (k - 1) r → r ≡ 2 ^ (k - 1)
-power sized two_to = two_to.fits (omega (arith, sized.most))
-
-ports : {n k r : ℕ} → Sized edition1 n k → TwoTo (k - 1) r → r ≤ 2 ^ 4
-ports {k = k} sized two_to = omega (arith, power sized two_to, pow_mono {i = k - 1} {j = 4} (omega (arith, sized.most)))
-
-module _ {x y : ℕ} (f : Fits w16 x) (g : Fits w16 y) where
-  few : (p : ℕ) → p ≤ 2 ^ 4 → (x + y) * p ≤ 2 ^ 17 * 2 ^ 4
-  few p h = let both : x + y ≤ 2 ^ 17 = omega arith in mul-le-mul both h
-
-  switches_fit : {p : ℕ} → p ≤ 2 ^ 4 → Fits w32 ((x + y) * p)
-  switches_fit {p} h = omega (arith, few p h)
-
-  multiplexers_fit : {p : ℕ} → p ≤ 2 ^ 4 → Fits w32 (2 * ((x + y) * p))
-  multiplexers_fit {p} h = omega (arith, few p h)
+passed : {n k : ℕ} {s : List ℕ} (sizes : Sizes) → Checks (sheet_table edition1 n k s) true (Ok sizes) → Sized edition1 n k × (length s ≡ sheet_places edition1) × WellFormed edition1 n k s
+passed sizes checks = check_sound (Ok sizes) true checks refl
 
 gates_fit : {n k : ℕ} {l : List ℕ} → Sized edition1 n k → FormedSide edition1 n k l → total xor_gates_of (side_of edition1 n k l).stages ≤ 15 * 8
 gates_fit {n} {k} {l} sized formed =
@@ -70,48 +58,37 @@ three : {a b c x y z : ℕ} → a ≡ x → b ≡ y → c ≡ z → a ∷ b ∷ 
 three e f g = cc
 
 pub bounds-sheet-15 : goal.bounds-sheet-15
-bounds-sheet-15 c = omega (arith, (check_sound true c.check-answer.ensures c.in_default.is).1)
+bounds-sheet-15 c = omega (arith, (passed c.in_ok-check.field-0 c.in_ok-check.ensures.answer).1)
 
 pub bounds-sheet : goal.bounds-sheet
-bounds-sheet c = omega (arith, (check_sound true c.check-answer.ensures c.in_default.is).1)
-
-pub overflow_sub-k : goal.overflow_sub-k
-overflow_sub-k c = (check_sound true c.check-answer.ensures c.in_default.is).0.least
-
-pub overflow_mul-switches : goal.overflow_mul-switches
-overflow_mul-switches c =
-    switches_fit (c.type_inv.sheet 15) (c.type_inv.sheet 47) (ports (check_sound true c.check-answer.ensures c.in_default.is).0 c.two_to.ensures)
+bounds-sheet c = omega (arith, (passed c.in_ok-check.field-0 c.in_ok-check.ensures.answer).1)
 
 pub slice_bounds-xor_gates-end : goal.slice_bounds-xor_gates-end
-slice_bounds-xor_gates-end c = omega (arith, (check_sound true c.check-answer.ensures c.in_default.is).1)
+slice_bounds-xor_gates-end c = omega (arith, (passed c.in_ok-check.field-0 c.in_ok-check.ensures.answer).1)
 
 pub xor_gates-write_gates-requires : goal.xor_gates-write_gates-requires
 xor_gates-write_gates-requires c =
     let s = c.args.sheet.now in
-    let (_, places, formed) = check_sound true c.check-answer.ensures c.in_default.is in
+    let (_, places, formed) = passed c.in_ok-check.field-0 c.in_ok-check.ensures.answer in
     controlled (write_count_law s) (write_stages s) (length-take-le 32 s (omega (arith, places))) formed.write
 
 pub slice_bounds-xor_gates-count-2 : goal.slice_bounds-xor_gates-count-2
-slice_bounds-xor_gates-count-2 c = omega (arith, (check_sound true c.check-answer.ensures c.in_default.is).1)
+slice_bounds-xor_gates-count-2 c = omega (arith, (passed c.in_ok-check.field-0 c.in_ok-check.ensures.answer).1)
 
 pub slice_bounds-xor_gates-start-2 : goal.slice_bounds-xor_gates-start-2
-slice_bounds-xor_gates-start-2 c = omega (arith, (check_sound true c.check-answer.ensures c.in_default.is).1)
+slice_bounds-xor_gates-start-2 c = omega (arith, (passed c.in_ok-check.field-0 c.in_ok-check.ensures.answer).1)
 
 pub xor_gates-read_gates-requires : goal.xor_gates-read_gates-requires
 xor_gates-read_gates-requires c =
     let s = c.args.sheet.now in
-    let (_, places, formed) = check_sound true c.check-answer.ensures c.in_default.is in
+    let (_, places, formed) = passed c.in_ok-check.field-0 c.in_ok-check.ensures.answer in
     let half : length s - 32 ≡ 32 = omega (arith, places) in
     controlled (read_count s) (read_stages_law s) (length-drop 32 s ∙ half) formed.read
 
-pub overflow_mul-multiplexers : goal.overflow_mul-multiplexers
-overflow_mul-multiplexers c =
-    multiplexers_fit (c.type_inv.sheet 15) (c.type_inv.sheet 47) (ports (check_sound true c.check-answer.ensures c.in_default.is).0 c.two_to.ensures)
-
-pub overflow_add-gates : goal.overflow_add-gates
-overflow_add-gates c =
+pub overflow_add-result : goal.overflow_add-result
+overflow_add-result c =
     let s = c.args.sheet.now in
-    let (sized, _, formed) = check_sound true c.check-answer.ensures c.in_default.is in
+    let (sized, _, formed) = passed c.in_ok-check.field-0 c.in_ok-check.ensures.answer in
     let written = write_gates s c.args.n c.args.k c.xor_gates-write_gates.ensures in
     let read = read_gates s c.args.n c.args.k c.xor_gates-read_gates.ensures in
     omega (arith, written, read, gates_fit sized formed.write, gates_fit sized formed.read)
@@ -121,9 +98,9 @@ returns c =
     let n = c.args.n in
     let k = c.args.k in
     let s = c.args.sheet.now in
-    let powered = power (check_sound true c.check-answer.ensures c.in_default.is).0 c.two_to.ensures in
+    let powered = c.two_to.ensures.fits (omega (arith, (passed c.in_ok-check.field-0 c.in_ok-check.ensures.answer).0.most)) in
     let switched = ap (λ (x : ℕ). (get_or s 15 0 + get_or s 47 0) * x) powered in
-    done_by (sym (c.check-answer.ensures [] (says_yes tt)) ∙ ap said c.in_default.is) (three
+    done_by (sym (c.in_ok-check.ensures.answer [] (says_yes tt))) (three
     (switched ∙ sym (of_each s n k (2 ^ (k - 1))))
     (omega (arith, switched, of_each s n k (2 * 2 ^ (k - 1))))
     (ap₂ ◌+◌ (write_gates s n k c.xor_gates-write_gates.ensures) (read_gates s n k c.xor_gates-read_gates.ensures)

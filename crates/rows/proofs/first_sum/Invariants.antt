@@ -1,5 +1,5 @@
 -- All numbers so far were kept, so that there are at most 16.
-use Rattle.std.proofs.Common.{ℕ, ◌-◌, ◌≤◌, ◌<◌, ◌≡◌, true, List, length}
+use Rattle.std.proofs.Common.{ℕ, ◌≤◌, ◌<◌, ◌≡◌, true, List}
 use Rattle.bits.specs.Padded.{array_width}
 use Rattle.rows.specs.Listed.{kept_in}
 use Rattle.rows.proofs.first_sum.Given as goal
@@ -10,6 +10,3 @@ pub record AllKept (ms : List ℕ) (j : ℕ) : Type 0 where
 
 abbrev pub invariant-loop-j : goal.invariant-loop-j
 invariant-loop-j l = AllKept l.masks l.j
-
-abbrev pub decreases-loop-j : goal.decreases-loop-j
-decreases-loop-j l = length l.masks - l.j

@@ -7,7 +7,7 @@ use Rattle.rows.proofs.masks_of.Goals as goal
 
 pub returns : goal.returns
 returns c =
-    let scans = c.scan_all-scanned.ensures in
+    let scans = c.scan_all.ensures in
     let taken = take array_width c.args.numbers.now in
-    padded_unique array_width (masks taken) c.scan_all-scanned.result.masks (omega (arith, masks_length taken, length-take array_width c.args.numbers.now))
+    padded_unique array_width (masks taken) c.scan_all.result.masks (omega (arith, masks_length taken, length-take array_width c.args.numbers.now))
     scans.places scans.masked

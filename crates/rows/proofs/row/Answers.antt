@@ -1,6 +1,7 @@
-use Rattle.std.proofs.Common.{ℕ, suc, ◌+◌, ◌-◌, ◌*◌, ◌/◌, ◌%◌, ◌^◌, ◌≤◌, ◌<◌, ◌≡◌, min, List, ◌∷◌, length, get_or, take, drop, sym, ap, ap₂, ◌∙◌, arith, length-take, length-drop, get_or-take, drop-cons, pow_mono}
+use Rattle.std.proofs.Common.{ℕ, ◌+◌, ◌*◌, ◌/◌, ◌%◌, ◌^◌, ◌≤◌, ◌<◌, ◌≡◌, List, [], ◌∷◌, ◌++◌, length, get_or, take, sym, ap, ◌∙◌, arith, append_assoc, append-nil, length-append, length-take, get_or-take, pow_mono}
+use Rattle.std.proofs.lemmas.List.{take_min}
+use Rattle.std.proofs.Math.Nat.{min_comm}
 use native.Mathlib.Nat.{div-eq_of_lt}
-use lib.Seq.{drop-length}
 use Rattle.bits.specs.Padded.{array_width}
 use Rattle.bits.specs.Parity.{dot}
 use Rattle.bits.proofs.ParityLaws.{dot_unit}
@@ -21,57 +22,34 @@ none_there numbers i below h =
     ∙ dot_unit i number
     ∙ ap (λ (x : ℕ). x % 2) (div-eq_of_lt (omega (arith, below j, pow_mono {i = 16} {j = i} h))))
 
-start : {numbers : List ℕ} {i end : ℕ} → i < array_width → end ≡ min (length numbers) array_width → Crossed numbers i 0 end
-start {numbers} {i} {end} narrow e =
-    let taken = take array_width numbers in
-    let all : end ≡ length taken = omega (arith, length-take array_width numbers) in
-    record {
-      narrow = narrow;
-      within = omega arith;
-      so_far = sym (ap (λ (l : List ℕ). row_in l i) (ap (λ (m : ℕ). drop m taken) all ∙ drop-length taken) ∙ row_nil i);
-    }
+module _ {numbers left : List ℕ} {i row : ℕ} (r : Crossed numbers i row left) where
+  fits : length numbers ≤ 16 → row < 2 ^ 16
+  fits few =
+      let short : length r.passed ≤ 16 = omega (arith, few, ap length r.whole, length-append left r.passed) in
+      omega (arith, r.so_far, row_lt r.passed i, pow_mono {i = length r.passed} {j = 16} short)
 
-module _ {numbers : List ℕ} {i row j : ℕ} (r : Crossed numbers i row j) where
-  abbrev taken : List ℕ
-  taken = take array_width numbers
-
-  few : length taken ≤ array_width
-  few = omega (arith, length-take array_width numbers)
-
-  fits : row < 2 ^ 16
-  fits =
-      let rest : length (drop j taken) ≤ 16 = omega (arith, length-drop j taken, few) in
-      omega (arith, r.so_far, row_lt (drop j taken) i, pow_mono rest)
-
-  more : 0 < j → Crossed numbers i (2 * row + get_or numbers (j - 1) 0 / 2 ^ i % 2) (j - 1)
-  more h =
-      let last = get_or numbers (j - 1) 0 in
-      let back : suc (j - 1) ≡ j = omega arith in
-      let same : get_or taken (j - 1) 0 ≡ last = get_or-take array_width numbers (j - 1) 0 (omega (arith, r.within, few)) in
-      let here : drop (j - 1) taken ≡ last ∷ drop j taken = drop-cons taken (j - 1) 0 (omega (arith, r.within)) ∙ ap₂ (λ (x m : ℕ). x ∷ drop m taken) same back in
-      record {
-        narrow = r.narrow;
-        within = omega (arith, r.within);
-        so_far = sym (ap (λ (l : List ℕ). row_in l i) here ∙ omega (arith, r.so_far, row_cons last (drop j taken) i));
-      }
-
-  done : j ≤ 0 → row ≡ row_in taken i
-  done end = let none : j ≡ 0 = omega arith in rw none at r.so_far
+  more : (rest : List ℕ) (number : ℕ) → left ≡ rest ++ (number ∷ []) → Crossed numbers i (2 * row + number / 2 ^ i % 2) rest
+  more rest number e = record {
+    passed = number ∷ r.passed;
+    whole = r.whole ∙ rw e (append_assoc rest (number ∷ []) r.passed);
+    so_far = omega (arith, r.so_far, row_cons number r.passed i);
+  }
 
 pub returns-then-i-ge-WIDTH : goal.returns-then-i-ge-WIDTH
 returns-then-i-ge-WIDTH c = sym (none_there c.args.numbers.now c.args.i (λ j. (c.type_inv.numbers j).fits) c.if-i-ge-WIDTH.true)
 
-pub loop-j-init : goal.loop-j-init
-loop-j-init c = start c.if-i-ge-WIDTH.false c.at_most_width-j.ensures
+pub loop-number-init : goal.loop-number-init
+loop-number-init c =
+    let numbers = c.args.numbers.now in
+    let first : take c.min.result numbers ≡ take array_width numbers = rw (c.min.ensures, min_comm (length numbers) array_width) (take_min array_width numbers) in
+    rw (c.into_iter-number-iterator.ensures.into_iter_gives, c.rev-number-items.ensures.source, c.iter.ensures.rest)
+    (record { passed = []; whole = rw first (sym (append-nil _)); so_far = sym (row_nil c.args.i) })
+
+pub loop-number-preserved : goal.loop-number-preserved
+loop-number-preserved c = more c.loop-number.invariant _ _ c.in-Some.ensures.steps
 
 pub overflow_mul-row : goal.overflow_mul-row
-overflow_mul-row c = omega (arith, fits (more c.loop-j.invariant c.loop-j-test.true))
+overflow_mul-row c = omega (arith, length-take array_width c.args.numbers.now, fits (more c.loop-number.invariant _ _ c.in-Some.ensures.steps) (omega (arith, length-take array_width c.args.numbers.now)))
 
 pub overflow_add-row : goal.overflow_add-row
-overflow_add-row c = omega (arith, fits (more c.loop-j.invariant c.loop-j-test.true))
-
-pub loop-j-preserved : goal.loop-j-preserved
-loop-j-preserved c = more c.loop-j.invariant c.loop-j-test.true
-
-pub returns : goal.returns
-returns c = done c.loop-j.invariant c.loop-j-test.false
+overflow_add-row c = omega (arith, fits (more c.loop-number.invariant _ _ c.in-Some.ensures.steps) (omega (arith, length-take array_width c.args.numbers.now)))

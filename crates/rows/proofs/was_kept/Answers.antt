@@ -1,19 +1,19 @@
 -- A mask has 16 bits, and so has no number from 16 on a mask that is its own.
-use Rattle.std.proofs.Common.{ℕ, ◌≤◌, ◌<◌, ◌^◌, ◌≡◌, false, List, length, get_or, sym, arith, pow_pos, pow_mono}
-use borrow.Author.Tests.{lt-leb}
+use Rattle.std.proofs.Common.{ℕ, ◌≤◌, ◌<◌, ◌^◌, ◌≡◌, ◌⊎◌, inl, inr, false, List, length, get_or, ◌∙◌, arith, pow_pos, pow_mono}
+use borrow.Author.Tests.{lt-leb, le-ltb}
 use lib.ListN.{get_or-eq_default}
-use Rattle.bits.specs.Padded.{array_width}
 use Rattle.rows.specs.Listed.{kept_in}
 use Rattle.rows.proofs.was_kept.Goals as goal
+use Rattle.rows.proofs.was_kept.Goals.{then-i-lt-WIDTH, else-i-lt-WIDTH}
 
-none_beyond : (ms : List ℕ) (i : ℕ) → ((j : ℕ) → get_or ms j 0 < 2 ^ 16) → array_width ≤ i → false ≡ kept_in ms i
-none_beyond ms i below h = sym (lt-leb (2 ^ i) (get_or ms i 0) (omega (arith, below i, pow_mono {i = 16} {j = i} h)))
+none_there : (ms : List ℕ) (i : ℕ) → get_or ms i 0 < 2 ^ 16 → (i < 16 × length ms ≤ i) ⊎ (16 ≤ i) → kept_in ms i ≡ false
+none_there ms i small (inl after) = lt-leb (2 ^ i) (get_or ms i 0) (omega (arith, pow_pos i, get_or-eq_default ms 0 after.1))
+none_there ms i small (inr beyond) = lt-leb (2 ^ i) (get_or ms i 0) (omega (arith, small, pow_mono {i = 16} {j = i} beyond))
 
-none_after : (ms : List ℕ) (i : ℕ) → length ms ≤ i → false ≡ kept_in ms i
-none_after ms i h = sym (lt-leb (2 ^ i) (get_or ms i 0) (omega (arith, pow_pos i, get_or-eq_default ms 0 h)))
-
-pub returns-then-i-ge-WIDTH : goal.returns-then-i-ge-WIDTH
-returns-then-i-ge-WIDTH c = none_beyond c.args.masks.now c.args.i (λ j. (c.type_inv.masks j).fits) c.if-i-ge-WIDTH.true
-
-pub returns-then-masks-i : goal.returns-then-masks-i
-returns-then-masks-i c = none_after c.args.masks.now c.args.i c.if-masks-i.true
+pub returns-else-i-masks : goal.returns-else-i-masks
+returns-else-i-masks c =
+    let i = c.args.i in
+    rw (none_there c.args.masks.now i (c.type_inv.masks i).fits c.if-i-masks.either) (elim c.if-i-lt-WIDTH.branch [
+      | then-i-lt-WIDTH w ↦ w.t-4-is ∙ le-ltb i (length c.args.masks.now) (omega arith)
+      | else-i-lt-WIDTH w ↦ w.t-4-is ∙ le-ltb i 16 w.if-i-lt-WIDTH.false
+    ])

@@ -1,8 +1,9 @@
 use Rattle.std.proofs.Common.{ℕ, ◌≡◌, ◌+◌, ◌*◌, ◌/◌, ◌<◌, ◌↔◌, false, List, length, get_or, arith}
 use lib.ListN.{get_or-eq_default}
 use Rattle.kinds.specs.Answers.{Says}
-use Rattle.kinds.proofs.TruthLaws.{says_no, says_yes}
-use Rattle.sheet.specs.Sheet.{Stage, stage_at, stages_in}
+use Rattle.kinds.proofs.TruthLaws.{says_no, says_yes, denied}
+use Rattle.sheet.specs.Sheet.{stage_at, stages_in}
+use Rattle.sheet.specs.declared.Stage.{Stage}
 use Rattle.sheet.specs.Layout.{StageInRange, EachStage}
 use Rattle.sheet.proofs.StageLaws.{each_stage}
 use Rattle.sheet.proofs.stages_formed.Goals as goal
@@ -25,23 +26,14 @@ module _ (l : List ℕ) (count ports ticks : ℕ) where
       let none : get_or l (2 * last + 1) 0 ≡ 0 = get_or-eq_default l 0 (omega arith) in
       omega (arith, (each.0 all last h).control.least, none))
 
-  refuse : (s : ℕ) → s < count → ¬ Formed (stage_at l s) → Says false AllFormed
-  refuse s h n = says_no (λ all. n (each.0 all s h))
+pub returns-then-places-count : goal.returns-then-places-count
+returns-then-places-count c = none_there _ _ _ _ c.if-places-count.true
 
-pub returns-then-stages-count : goal.returns-then-stages-count
-returns-then-stages-count c = none_there _ _ _ _ c.if-stages-count.true
-
-pub returns-then-direction-lt1 : goal.returns-then-direction-lt1
-returns-then-direction-lt1 c = refuse _ _ _ _ c.loop-s.s c.loop-s-test.true (λ f. omega (arith, f.direction.least, c.if-direction-lt1.true))
-
-pub returns-then-ports-direction : goal.returns-then-ports-direction
-returns-then-ports-direction c = refuse _ _ _ _ c.loop-s.s c.loop-s-test.true (λ f. omega (arith, f.direction, c.if-ports-direction.true))
-
-pub returns-then-control-lt1 : goal.returns-then-control-lt1
-returns-then-control-lt1 c = refuse _ _ _ _ c.loop-s.s c.loop-s-test.true (λ f. omega (arith, f.control.least, c.if-control-lt1.true))
-
-pub returns-then-ticks-control : goal.returns-then-ticks-control
-returns-then-ticks-control c = refuse _ _ _ _ c.loop-s.s c.loop-s-test.true (λ f. omega (arith, f.control, c.if-ticks-control.true))
+pub returns-then-not-in_range : goal.returns-then-not-in_range
+returns-then-not-in_range c =
+    says_no (λ all.
+    denied c.in_range.ensures c.if-not-in_range.true
+    (rw (c.stage_at.ensures.there (omega arith)) ((each _ _ _ _).0 all c.loop-s.s c.loop-s-test.true)))
 
 pub returns : goal.returns
-returns c = says_yes ((each _ _ _ _).1 (λ s h. c.loop-s.invariant s (omega (arith, h, c.loop-s-test.false))))
+returns c = says_yes ((each _ _ _ _).1 (λ s h. c.loop-s.invariant s (omega arith)))

@@ -1,11 +1,8 @@
 -- Every stage passed is in range.
-use Rattle.std.proofs.Common.{◌-◌, ℕ, ◌<◌}
+use Rattle.std.proofs.Common.{ℕ, ◌<◌}
 use Rattle.sheet.specs.Sheet.{stage_at}
 use Rattle.sheet.specs.Layout.{StageInRange}
 use Rattle.sheet.proofs.stages_formed.Given as goal
 
 abbrev pub invariant-loop-s : goal.invariant-loop-s
-invariant-loop-s l = (i : ℕ) → i < l.s → StageInRange l.ports l.ticks (stage_at l.stages i)
-
-abbrev pub decreases-loop-s : goal.decreases-loop-s
-decreases-loop-s l = l.count - l.s
+invariant-loop-s l = (i : ℕ) → i < l.s → StageInRange l.ports l.ticks (stage_at l.places i)

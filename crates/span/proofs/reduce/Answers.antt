@@ -36,11 +36,11 @@ module _ {es : List ℕ} {e left : ℕ} (i : Reducing es e left) (long : 2 ^ wid
 pub loop-left-init : goal.loop-left-init
 loop-left-init c = start c.ranges.entry.fits
 
-pub bounds-entries-at : goal.bounds-entries-at
-bounds-entries-at c = row_place c.loop-left.invariant.fits c.loop-left-test.true
+pub bounds-entries-left : goal.bounds-entries-left
+bounds-entries-left c = row_place c.loop-left.invariant.fits c.loop-left-test.true
 
 pub returns-then-left-less : goal.returns-then-left-less
-returns-then-left-less c = none c.loop-left.invariant c.loop-left-test.true c.if-left-less.true
+returns-then-left-less c = none c.loop-left.invariant c.loop-left-test.true (omega arith)
 
 pub loop-left-preserved : goal.loop-left-preserved
-loop-left-preserved c = more c.loop-left.invariant c.loop-left-test.true c.if-left-less.false
+loop-left-preserved c = more c.loop-left.invariant c.loop-left-test.true (omega arith)

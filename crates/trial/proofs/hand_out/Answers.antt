@@ -1,84 +1,98 @@
-use Rattle.std.proofs.Common.{ℕ, ◌≡◌, ◌+◌, ◌-◌, ◌*◌, ◌^◌, ◌≤◌, ◌<◌, List, [], ◌++◌, length, get_or, take, drop, sym, ap, ap₂, ◌∙◌, append-nil, arith, below_none, drop_of_length-le, length-append, length-take, length-drop}
+use Rattle.std.proofs.Common.{ℕ, suc, ◌≡◌, ◌+◌, ◌-◌, ◌*◌, ◌^◌, ◌≤◌, ◌<◌, List, [], ◌++◌, length, get_or, take, drop, sym, ap, ap₂, ◌∙◌, append-nil, arith, drop_of_length-le, length-append, length-take, length-drop, Result}
+use Rattle.std.proofs.lemmas.List.{places}
 use native.Mathlib.Decide.{dec_lt}
+use native.Mathlib.Nat.{add-zero, mul-le-mul_right}
 use lib.Pow.{high, low}
 use Rattle.kinds.specs.Answers.{over_front}
 use Rattle.kinds.specs.Edition.{edition1}
 use Rattle.kinds.specs.Frame.{ticks, tick_of, port_of}
-use Rattle.kinds.proofs.FrameLaws.{in_order_length, in_order_is}
+use Rattle.kinds.specs.declared.Refusal.{Refusal}
+use Rattle.kinds.proofs.FrameLaws.{frame_whole, in_order_length, in_order_is}
 use Rattle.state.specs.declared.State.{State}
 use Rattle.call.specs.Tool.{state_after}
-use Rattle.call.specs.declared.RunAnswer.{RunAnswer}
+use Rattle.call.specs.declared.Ran.{Ran}
 use Rattle.run.specs.Tool.{Runs}
 use Rattle.realise.proofs.OneFrame.{blank_call}
 use Rattle.trial.specs.Inside.{leaves_in, frame_handed}
-use Rattle.trial.proofs.CallLaws.{lent, tick_leaves}
-use Rattle.trial.proofs.PassingLaws.{Passing, passing_start, passing_left, passing_fits, passing_more}
-use Rattle.trial.proofs.PartLaws.{before_part, in_part}
+use Rattle.trial.proofs.CallLaws.{lent, tick_fits, tick_leaves, call_goes}
 use Rattle.trial.proofs.hand_out.Invariants.{word_left, Handing}
 use Rattle.trial.proofs.hand_out.Goals as goal
 
-module _ {n k ports at : ℕ} {s f ws ms : List ℕ} {st : State} (i : Handing n k s f ws ms ports st at) where
-  module _ (h : at < length f) where
-    abbrev p : Passing n k s f (ticks n k) st ws ms ports at
-    p = i.passing
+in_part : (a : ℕ) (l r rest : List ℕ) (p : ℕ) → a ≤ length l → p < length r → get_or (take a l ++ (r ++ rest)) (a + p) 0 ≡ get_or r p 0
+in_part a l r rest p h b = grind (arith, places)
+
+module _ {n k c : ℕ} {s f ws ms : List ℕ} {st : State} (i : Handing n k s f ws ms st c) where
+  within : k ≤ n
+  within = omega (arith, i.run.sized.most)
+
+  module _ {ports : ℕ} (wide : ports ≡ 2 ^ k) (h : c < ticks n k) where
+    abbrev at : ℕ
+    at = c * ports
 
     abbrev part : List ℕ
     part = take (at + ports - at) (drop at f)
 
     abbrev tick : List ℕ
-    tick = leaves_in n k s (ticks n k + p.calls)
+    tick = leaves_in n k s (ticks n k + c)
 
     -- the frame, with the numbers r for the part
     abbrev with : List ℕ → List ℕ
     with r = take at f ++ (r ++ drop (at + ports - at) (drop at f))
 
+    from_tick : at ≡ c * 2 ^ k
+    from_tick = ap (λ (p : ℕ). c * p) wide
+
+    fits : at + ports ≤ length f
+    fits = omega (arith, from_tick, wide, i.room, tick_fits within h)
+
     part_length : length part ≡ 2 ^ k
-    part_length = omega (arith, length-take (at + ports - at) (drop at f), length-drop at f, passing_fits p h, p.tick)
+    part_length = omega (arith, length-take (at + ports - at) (drop at f), length-drop at f, fits, wide)
 
     with_length : (r : List ℕ) → length r ≡ length part → length (with r) ≡ length f
-    with_length r same = omega (arith, same, passing_fits p h, length-append {A = ℕ}, length-take {A = ℕ}, length-drop {A = ℕ})
+    with_length r same = omega (arith, same, fits, length-append {A = ℕ}, length-take {A = ℕ}, length-drop {A = ℕ})
 
     tick_length : length tick ≡ 2 ^ k
-    tick_length = ap length (tick_leaves p.run (passing_left p h)) ∙ in_order_length (2 ^ k) _
+    tick_length = ap length (tick_leaves i.run h) ∙ in_order_length (2 ^ k) _
 
     tick_fills : over_front tick part ≡ tick
     tick_fills = rw (drop_of_length-le part {i = length tick} (omega (arith, part_length, tick_length))) (append-nil tick)
 
     tick_there : (q : ℕ) → at ≤ q → q < at + ports → get_or (with tick) q 0 ≡ word_left n k s q
     tick_there q from l =
-        let port : q - at < 2 ^ k = omega (arith, p.tick) in
+        let port : q - at < 2 ^ k = omega (arith, wide) in
         let place : q ≡ at + (q - at) = omega arith in
-        let word : q ≡ p.calls * 2 ^ k + (q - at) = omega (arith, p.passed) in
+        let word : q ≡ c * 2 ^ k + (q - at) = omega (arith, from_tick) in
         ap (λ (x : ℕ). get_or (with tick) x 0) place
-        ∙ in_part at f tick _ (omega arith) (omega (arith, tick_length))
-        ∙ sym (ap₂ (λ (c x : ℕ). get_or (leaves_in n k s (ticks n k + c)) x 0) (ap (tick_of k) word ∙ high p.calls k port) (ap (port_of k) word ∙ low p.calls k port))
+        ∙ in_part at f tick _ _ (omega (arith, fits)) (omega (arith, tick_length))
+        ∙ sym (ap₂ (λ (d x : ℕ). get_or (leaves_in n k s (ticks n k + d)) x 0) (ap (tick_of k) word ∙ high c k port) (ap (port_of k) word ∙ low c k port))
 
-    more : {left ws' ms' : List ℕ} {st' : State} {a : RunAnswer} → Runs edition1 n k s (lent st [] ws ms part) (record { answer = a; memory = record { words = ws'; marks = ms' }; out = left })
-        → st' ≡ state_after st a → length left ≡ length part → Handing n k s (with left) ws' ms' ports st' (at + ports)
+    more : {left ws' ms' : List ℕ} {st' : State} {a : Result Ran Refusal} → Runs edition1 n k s (lent st [] ws ms part) (record { answer = a; memory = record { words = ws'; marks = ms' }; out = left })
+        → st' ≡ state_after st a → length left ≡ length part → Handing n k s (with left) ws' ms' st' (c + 1)
     more {left} goes after same =
-        let (next, buffer) = passing_more p h (omega arith) (with_length left same) part_length (sym (blank_call n k (λ j. j) p.calls (passing_left p h))) goes after in
+        let (here, buffer) = call_goes i.run (omega arith) i.here part_length (sym (blank_call n k (λ j. j) c h)) goes after in
+        let next : ticks n k + (c + 1) ≡ suc (ticks n k + c) = omega arith in
         record {
-          passing = next;
+          run = i.run;
+          room = with_length left same ∙ i.room;
+          here = rw next here;
           each = λ q l. elim (dec_lt q at) [
-            | yes b ↦ before_part at f left _ (omega arith) b ∙ i.each q b
-            | no b ↦ rw (buffer ∙ tick_fills) (tick_there q (omega arith) l)
+            | yes b ↦ let before : get_or (with left) q 0 ≡ get_or f q 0 = grind (arith, places, fits) in before ∙ i.each q (omega (arith, from_tick))
+            | no b ↦ rw (buffer ∙ tick_fills) (tick_there q (omega arith) (omega (arith, from_tick, wide)))
           ];
         }
 
-  done : length f ≤ at → f ≡ frame_handed n k s
-  done end = in_order_is (2 ^ n) (word_left n k s) 0 f i.passing.frame (λ q l. i.each q (omega (arith, i.passing.frame)))
+  done : ticks n k ≤ c → f ≡ frame_handed n k s
+  done end = in_order_is (2 ^ n) (word_left n k s) 0 f i.room (λ q l. i.each q (omega (arith, frame_whole within, mul-le-mul_right (2 ^ k) end)))
 
-pub loop-place-init : goal.loop-place-init
-loop-place-init c =
-    let asked = c.requires in
-    let tick = c.two_to-ports.ensures.fits (omega (arith, asked.runnable.sized.most)) in
-    record { passing = passing_start asked.runnable asked.room tick asked.entered; each = below_none _ }
+pub loop-c-init : goal.loop-c-init
+loop-c-init c = record { run = c.requires.runnable; room = c.requires.room; here = rw add-zero c.requires.entered; each = λ q l. absurd (omega arith) }
 
-pub slice_bounds-tick-end-in-loop-place : goal.slice_bounds-tick-end-in-loop-place
-slice_bounds-tick-end-in-loop-place c = omega (arith, passing_fits c.loop-place.invariant.passing c.loop-place-test.true)
+pub slice_bounds-out-end : goal.slice_bounds-out-end
+slice_bounds-out-end c = fits c.loop-c.invariant c.ports-ports.ensures (rw c.ticks-c-end.ensures at c.loop-c-test.true)
 
-pub loop-place-preserved : goal.loop-place-preserved
-loop-place-preserved c = more c.loop-place.invariant c.loop-place-test.true c.tick-answer.ensures c.after-state.ensures c.tick-answer.auto.out
+pub loop-c-preserved : goal.loop-c-preserved
+loop-c-preserved c =
+    more c.loop-c.invariant c.ports-ports.ensures (rw c.ticks-c-end.ensures at c.loop-c-test.true) c.tick-answer.ensures c.after-state.ensures c.tick-answer.auto.out
 
 pub returns : goal.returns
-returns c = done c.loop-place.invariant c.loop-place-test.false
+returns c = done c.loop-c.invariant (rw c.ticks-c-end.ensures at c.loop-c-test.false)

@@ -1,21 +1,19 @@
--- Each tick of the frame before the place has been handed out, by a blank call of its own.
-use Rattle.std.proofs.Common.{ℕ, ◌+◌, ◌-◌, ◌<◌, ◌≡◌, List, length, get_or}
+-- The first c ticks of the frame have been handed out, each by a blank call of its own.
+use Rattle.std.proofs.Common.{ℕ, ◌+◌, ◌*◌, ◌^◌, ◌<◌, ◌≡◌, List, length, get_or}
 use Rattle.kinds.specs.Frame.{ticks, tick_of, port_of}
 use Rattle.state.specs.declared.State.{State}
-use Rattle.trial.specs.Inside.{leaves_in}
-use Rattle.trial.proofs.PassingLaws.{Passing}
+use Rattle.trial.specs.Inside.{leaves_in, Here, Runnable}
 use Rattle.trial.proofs.hand_out.Given as goal
 
 -- what is handed out at place q
 abbrev pub word_left : ℕ → ℕ → List ℕ → ℕ → ℕ
 word_left n k s q = get_or (leaves_in n k s (ticks n k + tick_of k q)) (port_of k q) 0
 
-pub record Handing (n k : ℕ) (s f ws ms : List ℕ) (ports : ℕ) (st : State) (at : ℕ) : Type 0 where
-  pub passing : Passing n k s f (ticks n k) st ws ms ports at
-  pub each : (q : ℕ) → q < at → get_or f q 0 ≡ word_left n k s q
+pub record Handing (n k : ℕ) (s f ws ms : List ℕ) (st : State) (c : ℕ) : Type 0 where
+  pub run : Runnable n k s
+  pub room : length f ≡ 2 ^ n
+  pub here : Here n k s (ticks n k + c) st ws ms
+  pub each : (q : ℕ) → q < c * 2 ^ k → get_or f q 0 ≡ word_left n k s q
 
-abbrev pub invariant-loop-place : goal.invariant-loop-place
-invariant-loop-place l = Handing l.n l.k l.sheet l.frame l.words l.marks l.ports l.state l.place
-
-abbrev pub decreases-loop-place : goal.decreases-loop-place
-decreases-loop-place l = length l.initial.frame - l.place
+abbrev pub invariant-loop-c : goal.invariant-loop-c
+invariant-loop-c l = Handing l.sizes.n l.sizes.k l.sheet l.frame l.words l.marks l.state l.c

@@ -19,4 +19,5 @@ addressed o c p long word_is e n k S h =
     ∙ ap (λ (m : ℕ). image S.addresses (word_at m c p)) (shown_k h)
 
 pub returns : goal.returns
-returns c = addressed c.args.self c.args.tick.0 c.args.port.0 (omega arith) c.word_number-word.ensures c.image-address.ensures
+returns c =
+    addressed c.args.self.now c.args.slot.tick.0 c.args.slot.port.0 (omega arith) (c.from.ensures ∙ c.word_number-word.ensures) (c.from-2.ensures ∙ c.image.ensures)

@@ -38,6 +38,3 @@ loop-j-init c = record { each = λ n k S h. fill_none (omega (arith, places h)) 
 
 pub loop-j-preserved : goal.loop-j-preserved
 loop-j-preserved c = more c.loop-j.invariant c.loop-j-test.true c.column.ensures
-
-pub returns : goal.returns
-returns c n k S h = fill_whole (c.loop-j.invariant.each n k S h) (places h) c.loop-j-test.false

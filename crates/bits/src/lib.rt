@@ -75,15 +75,17 @@ pub fn pad_into(numbers: &[u16], places: &mut [u16])
     ensures { places.new ≡ padded_to (length places.old) (take (length places.old) numbers.now) }
 {
     let end = numbers.len().min(places.len());
-    places.fill(0);
     places[..end].copy_from_slice(&numbers[..end]);
+    places[end..].fill(0);
 }
 
-// The same in an array.
+// The same in an array. Each place is written once, zeros too, so that what holds it can be copied at once in wide pieces.
 pub fn padded<const N: usize>(numbers: &[u16]) -> [u16; N]
     ensures { result ≡ padded_to N (take N numbers.now) }
 {
     let mut places = [0; N];
-    pad_into(numbers, &mut places);
+    for j in 0..N {
+        places[j] = numbers.get(j).copied().unwrap_or(0);
+    }
     places
 }

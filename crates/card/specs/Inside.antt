@@ -3,7 +3,7 @@
 --   ReadsColumns b at r     the numbers from place at of b to its end, if these bytes are a row of numbers; else 15
 use Rattle.std.specs.Prelude.{ℕ, ◌≤◌, ◌≡◌, Result, IfOk, List, length, drop}
 use Rattle.std.proofs.Math.Option.{some}
-use Rattle.arrayvec.specs.ArrayVec.{ArrayVec}
+use Rattle.few.specs.Few.{Items}
 use Rattle.kinds.specs.Refusal.{said}
 use Rattle.kinds.specs.declared.Refusal.{Refusal}
 use Rattle.kinds.specs.declared.Refusal.TheVariants.{Card}
@@ -15,6 +15,6 @@ pub record Further (b : List ℕ) (at : ℕ) : Type 0 where
   pub two : 4 ≤ at
   pub within : at ≤ length b
 
-pub record ReadsColumns (b : List ℕ) (at : ℕ) (r : Result (ArrayVec ℕ) Refusal) : Type 0 where
+pub record ReadsColumns (b : List ℕ) (at : ℕ) (r : Result (Items ℕ) Refusal) : Type 0 where
   pub read : IfOk r (λ columns. IsRow (drop at b) columns.items)
   pub unread : (x : Refusal) → said r ≡ some x → (x ≡ Card) × ((C : List ℕ) → ¬ IsRow (drop at b) C)

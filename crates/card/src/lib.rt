@@ -4,7 +4,7 @@
 ghost use Rattle.card.specs.Card.{Reads};
 ghost use Rattle.card.specs.Inside.{Further, ReadsColumns};
 
-use arrayvec::ArrayVec;
+use few::Few;
 use kinds::Refusal;
 
 pub const LONGEST: usize = 128;
@@ -13,11 +13,11 @@ pub const LONGEST: usize = 128;
 pub const MOST_COLUMNS: usize = LONGEST / 2 - 2;
 
 // What a card says.
-#[derive(Drop)]
+#[derive(Clone, Copy)]
 pub struct Card {
     pub n: u32,
     pub k: u32,
-    pub columns: ArrayVec<u16, MOST_COLUMNS>,
+    pub columns: Few<u16, MOST_COLUMNS>,
 }
 
 // 15, or what the card says.
@@ -42,17 +42,17 @@ pub fn read(card: &[u8]) -> Result<Card, Refusal>
 }
 
 // The numbers from this place of the card to its end. Each says where the next one starts, so no range counts the places.
-fn read_columns(card: &[u8], at: usize) -> Result<ArrayVec<u16, MOST_COLUMNS>, Refusal>
+fn read_columns(card: &[u8], at: usize) -> Result<Few<u16, MOST_COLUMNS>, Refusal>
     requires { Further card.now at }
     ensures { ReadsColumns card.now at result }
 {
-    let mut columns = ArrayVec::new();
+    let mut columns = Few::new();
     let mut place = at;
     while place < card.len() {
         let Ok(column) = text::next(card, place) else {
             return Err(Refusal::Card);
         };
-        columns.push(column.value);
+        columns.add(column.value);
         place = column.end;
     }
     Ok(columns)

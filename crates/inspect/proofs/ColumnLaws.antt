@@ -8,8 +8,6 @@ use mathlib.Core.List.{List}
 use mathlib.Core.Logic.Iff
 use mathlib.Core.Logic.{◌↔◌}
 use native.Mathlib.Decide.{ℕ_discrete}
-use native.Mathlib.Omega.{arith}
-use lib.ListN.{length}
 use lib.Pow.{pow-lt}
 use Rattle.kinds.proofs.TruthLaws.{stable}
 use Rattle.bits.specs.Image.{Linear}
@@ -40,7 +38,7 @@ module _ {n k : ℕ} {o : OpenSide} {W : Side} (shows : Shows n k o W) where
       let columns = cell_bijection shows.used shows.ports in
       Iff.trans (Iff.symm own) columns
 
-module _ {n k : ℕ} {o p : OpenSide} {W R : Side} (write : Shows n k o W) (read : Shows n k p R) (C : List ℕ) (count : length C ≡ n) where
+module _ {n k : ℕ} {o p : OpenSide} {W R : Side} (write : Shows n k o W) (read : Shows n k p R) (C : List ℕ) where
   abbrev after : ℕ → ℕ
   after i = cell_of k R (place C i)
 
@@ -50,11 +48,9 @@ module _ {n k : ℕ} {o p : OpenSide} {W R : Side} (write : Shows n k o W) (read
   at_unit : (j : ℕ) → j < n → AgreeAt k C (cell_columns n k W) R j ↔ (cell_of k W (2 ^ j) ≡ after (2 ^ j))
   at_unit j h = rw (columns_at n (cell_of k W) j h) (rw (image_unit C j) Iff.rfl)
 
-  pub columns_tell : (¬ Differ n (cell_of k W) (cell_of k R) (place C)) ↔ Agree k C (cell_columns n k W) R
+  pub columns_tell : (¬ Differ n (cell_of k W) (cell_of k R) (place C)) ↔ Agree n k C (cell_columns n k W) R
   columns_tell = (
-    λ same j h.
-        let l : j < n = omega (arith, count) in
-        (at_unit j l).1 (stable (ℕ_discrete (cell_of k W (2 ^ j)) (after (2 ^ j))) (λ differ. same (2 ^ j, pow-lt l, differ))),
+    λ same j h. (at_unit j h).1 (stable (ℕ_discrete (cell_of k W (2 ^ j)) (after (2 ^ j))) (λ differ. same (2 ^ j, pow-lt h, differ))),
     λ agree (i, h, differ).
-        differ (linear_agree n (cell_of k W) after (cell_linear write.used) after_linear (λ j l. (at_unit j l).0 (agree j (omega (arith, count)))) i h),
+        differ (linear_agree n (cell_of k W) after (cell_linear write.used) after_linear (λ j l. (at_unit j l).0 (agree j l)) i h),
   )

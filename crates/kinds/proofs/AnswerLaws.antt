@@ -8,6 +8,7 @@
 --   some_lengths      either bool says of some lengths whether they are right
 --   checks_said       two right answers of a check give the same refusal, or none
 --   checks_unique     so a check with no value has one right answer
+--   sizes_unique      nor has one that gives sizes another
 --   refused_by        how a refusal meets `Answers`: it is the table's, and everything is as it came
 --   done_by           how no refusal meets it: the table gives none, and what is to hold does
 --   refuses, does     the same of a `Result`
@@ -15,7 +16,8 @@
 --   answers_kept      where one does, it has left everything as it came
 --   answers_same      two right answers give the same refusal, or none
 --   answers_agree     so two tools with one table were both done, or were both refused
-use mathlib.Core.Path.{◌≡◌, refl, sym, ap, ◌∙◌}
+use mathlib.Core.Path.{◌≡◌, refl, sym, ap, subst, ◌∙◌}
+use Rattle.std.proofs.Props.{props}
 use mathlib.Core.Bool.{Bool, true, false}
 use mathlib.Core.List.{List, [], ◌∷◌, ◌++◌}
 use mathlib.Core.Logic.{◌≢◌}
@@ -25,11 +27,14 @@ use Rattle.std.specs.Prelude.{Result, Ok, Err, IsOk}
 use native.Mathlib.Omega.{arith}
 use borrow.Author.Tests.{eqb-true, eq-eqb}
 use lib.Dec.{eqb}
+use Rattle.kinds.specs.Edition.{edition1, Sized}
 use Rattle.kinds.specs.Refusal.{said}
 use Rattle.kinds.specs.First.{Reason, first_of}
 use Rattle.kinds.specs.Lengths.{Wanted, exactly, RightLengths}
 use Rattle.kinds.specs.Answers.{Says, Checks, Answers}
+use Rattle.kinds.specs.Sizes.{AreSizes}
 use Rattle.kinds.specs.declared.Refusal.{Refusal}
+use Rattle.kinds.specs.declared.sizes.Sizes.{Sizes}
 use Rattle.kinds.proofs.TruthLaws.{says_no, says_yes}
 use Rattle.kinds.proofs.FirstLaws.{none_some, first_before}
 
@@ -66,6 +71,26 @@ checks_said t fits r s p q = let (others, says) = some_lengths fits in p others 
 
 pub checks_unique : (t : List (ℕ × Wanted) → List Reason) (fits : Bool) (r s : Result Unit Refusal) → Checks t fits r → Checks t fits s → r ≡ s
 checks_unique t fits r s p q = said_same r s (checks_said t fits r s p q)
+
+abbrev sizes_of : (n k : ℕ) → Sized edition1 n k → Sizes
+sizes_of n k sized = record { n = n; k = k; sized = sized }
+
+one_proof : (n k : ℕ) → IsProp (Sized edition1 n k)
+one_proof n k = Prim.hlevel props
+
+one_sizes : (n k m l : ℕ) (p : Sized edition1 n k) (q : Sized edition1 m l) → n ≡ m → k ≡ l → sizes_of n k p ≡ sizes_of m l q
+one_sizes n k m l p q e f =
+    subst (λ (x : ℕ). (s : Sized edition1 x l) → sizes_of n k p ≡ sizes_of x l s) e
+    (subst (λ (y : ℕ). (s : Sized edition1 n y) → sizes_of n k p ≡ sizes_of n y s) f (λ s. ap (sizes_of n k) (one_proof n k p s))) q
+
+same_sizes : (n k : ℕ) (r s : Result Sizes Refusal) → said r ≡ said s → AreSizes n k r → AreSizes n k s → r ≡ s
+same_sizes n k (Ok a) (Ok b) e is its = ap Ok (one_sizes a.n a.k b.n b.k a.sized b.sized (is.0 ∙ sym its.0) (is.1 ∙ sym its.1))
+same_sizes n k (Ok a) (Err x) e is its = none_some e
+same_sizes n k (Err x) (Ok b) e is its = none_some (sym e)
+same_sizes n k (Err x) (Err y) e is its = cc
+
+pub sizes_unique : (t : List (ℕ × Wanted) → List Reason) (fits : Bool) (n k : ℕ) (r s : Result Sizes Refusal) → Checks t fits r → AreSizes n k r → Checks t fits s → AreSizes n k s → r ≡ s
+sizes_unique t fits n k r s p is q its = same_sizes n k r s (checks_said t fits r s p q) is its
 
 module _ {t : List Reason} {D K : Type 0} where
   pub refused_by : {x : Refusal} → first_of t ≡ some x → K → Answers t (some x) D K

@@ -1,7 +1,7 @@
 // The board's vocabulary: four kinds of number, the sizes, and the ways a tool says no.
 #![tactic(auto)]
 
-ghost use Rattle.std.specs.Prelude.{◌≡◌};
+ghost use Rattle.std.specs.Prelude.{◌≡◌, IsOk};
 ghost use Rattle.kinds.specs.Answers.{Says};
 ghost use Rattle.kinds.specs.Edition.{edition1, SizedN, Sized};
 ghost use Rattle.kinds.specs.Refusal.{number_of};
@@ -41,6 +41,13 @@ pub enum Refusal {
     ReadClash(Port, Port),
     EmptyRead,
     Card,
+}
+
+// Whether a tool is done, whatever it answers besides.
+pub fn is_done<T>(answer: &Result<T, Refusal>) -> bool
+    ensures { Says result (IsOk answer.now) }
+{
+    answer.is_ok()
 }
 
 // The number that 01 gives a refusal.

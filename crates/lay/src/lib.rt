@@ -7,7 +7,8 @@ ghost use Rattle.bits.specs.Padded.{padded_to};
 ghost use Rattle.sheet.specs.Sheet.{flat};
 ghost use Rattle.lay.specs.Staged.{pairs, Lays};
 
-use sheet::{Stage, Stages};
+use sheet::Stage;
+pub use sheet::Stages;
 
 // A direction with each control, as long as there are both and a side may have the stage.
 pub fn pair_up(directions: &[u16], controls: &[u16]) -> Stages
@@ -18,7 +19,7 @@ pub fn pair_up(directions: &[u16], controls: &[u16]) -> Stages
         if stages.is_full() {
             break;
         }
-        stages.push(Stage {
+        stages.add(Stage {
             direction: *direction,
             control: *control,
         });
@@ -44,9 +45,9 @@ fn put_stages(stages: &[Stage], places: &mut [u16])
     requires { 2 * length stages.now ≤ length places.old }
     ensures { places.new ≡ padded_to (length places.old) (flat stages.now) }
 {
-    places.fill(0);
     for (s, stage) in stages.iter().enumerate() {
         places[2 * s] = stage.direction;
         places[2 * s + 1] = stage.control;
     }
+    places[2 * stages.len()..].fill(0);
 }

@@ -19,9 +19,10 @@ pub fn put_bytes(text: &mut [u8], at: usize, bytes: &[u8]) -> usize
     if !has_room(text.len(), at, bytes.len()) {
         return at;
     }
-    let end = at + bytes.len();
-    text[at..end].copy_from_slice(bytes);
-    end
+    for (i, byte) in bytes.iter().enumerate() {
+        text[at + i] = *byte;
+    }
+    at + bytes.len()
 }
 
 pub fn put_number(text: &mut [u8], at: usize, number: u32) -> usize

@@ -14,7 +14,7 @@ use switches::Slot;
 
 // A side with what it uses in range. Its columns have zeros after them: a column of 0 changes nothing, so a loop may go through every place.
 // That an opened side shows a side of a sheet (`Shows`) is no invariant of the type: `with_addresses` takes columns that no side of as many bits has, and what a side's n is no field tells.
-#[derive(Drop)]
+#[derive(Clone, Copy)]
 pub struct OpenSide {
     k: u32,
     addresses: [u16; WIDTH],
@@ -23,7 +23,7 @@ pub struct OpenSide {
 }
 
 // Both sides of a sheet, opened.
-#[derive(Drop)]
+#[derive(Clone, Copy)]
 pub struct Sides {
     pub write: OpenSide,
     pub read: OpenSide,
@@ -34,10 +34,9 @@ pub fn open(n: u32, k: u32, sheet: &[u16], fits: bool) -> Result<Sides, Refusal>
     ensures { Opens edition1 n k sheet.now fits result }
 {
     let sizes = sheet::check(n, k, sheet, fits)?;
-    Ok(Sides {
-        write: open_side(sizes, &sheet[..sheet::SIDE]),
-        read: open_side(sizes, &sheet[sheet::SIDE..]),
-    })
+    let write = open_side(sizes, &sheet[..sheet::SIDE]);
+    let read = open_side(sizes, &sheet[sheet::SIDE..]);
+    Ok(Sides { write, read })
 }
 
 fn open_side(sizes: Sizes, side: &[u16]) -> OpenSide

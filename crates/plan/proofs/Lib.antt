@@ -2,4 +2,3 @@
 pub mod ListedLaws
 pub mod DrawnLaws
 pub mod ToolLaws
-pub mod CheckedLaws

@@ -31,7 +31,7 @@ impl Chosen<'_> {
     ghost use Rattle.construction.specs.Planned.{read_with, write_with, sheet_with};
     ghost use Rattle.plan.specs.Inside.{bank_through};
 
-    pub fn write_sheet(&self, sheet: &mut [u16])
+    pub(crate) fn write_sheet(&self, sheet: &mut [u16])
         requires { length sheet.old ≡ sheet_places edition1 }
         ensures { sheet.new ≡ sheet_with edition1 self.now.sizes.n self.now.sizes.k self.now.read.now.items self.now.columns.now }
     {
@@ -105,8 +105,8 @@ fn kept_stages(columns: &[u16]) -> Stages
     let masks = &all[..columns.len()];
     let mut stages = Stages::new();
     for (j, column) in columns.iter().enumerate() {
-        if rows::was_kept(masks, j) && !stages.is_full() {
-            stages.push(Stage {
+        if rows::was_kept(masks, j) {
+            stages.add(Stage {
                 direction: *column,
                 control: rows::row(masks, j),
             });

@@ -3,7 +3,7 @@
 --   first_named       of a dependent list the first that was not kept is the first sum of earlier ones, and its mask says of which
 --   none_named        of an independent list none was not kept
 --   unkept_unique     there is one answer to which it is
-use Prim.Native.Nat.{ℕ, ◌^◌, ◌<◌}
+use Prim.Native.Nat.{ℕ, ◌^◌, ◌≤◌, ◌<◌}
 use mathlib.Core.Path.{◌≡◌, refl, sym, ◌∙◌}
 use mathlib.Core.Bool.{Bool, true, false, Bool-discrete}
 use mathlib.Core.List.{List}
@@ -31,21 +31,23 @@ told vs ms i e = (
   λ kept. le-leb (2 ^ i) (get_or ms i 0) (rw e ((mask_says vs i).0 kept)),
 )
 
-module _ (vs : List ℕ) {r : Option Summed} (u : FirstUnkept (masks vs) r) where
-  tells : (i : ℕ) → i < length vs → Says (kept_in (masks vs) i) (IsKept vs i)
-  tells i h = told vs (masks vs) i (masks_at vs i h)
-
-  pub first_named : ¬ Independent vs → r ≡ Some (record { at = first_sum vs; mask = mask vs (first_sum vs) })
-  first_named dep =
+-- the masks of a list, whatever comes after them
+module _ {ms : List ℕ} {r : Option Summed} (u : FirstUnkept ms r) (vs : List ℕ) where
+  pub first_named : length vs ≤ length ms → ((i : ℕ) → get_or ms i 0 ≡ get_or (masks vs) i 0) → ¬ Independent vs → r ≡ Some (record { at = first_sum vs; mask = mask vs (first_sum vs) })
+  first_named few same dep =
       let f = first_sum_law vs dep in
       let i = first_sum vs in
-      let own = masks_at vs i f.inside in
+      let its : (j : ℕ) → j < length vs → get_or ms j 0 ≡ mask vs j = λ j h. same j ∙ masks_at vs j h in
+      let own = its i f.inside in
       rw (← own)
-      (u.first i (rw masks_length f.inside) (lt-leb (2 ^ i) (get_or (masks vs) i 0) (rw own f.earlier))
-      (λ j h. (tells j (omega (arith, f.inside))).1 ((Is_kept_earlier vs j (omega arith)).1 (f.first j h))))
+      (u.first i (omega (arith, f.inside)) (lt-leb (2 ^ i) (get_or ms i 0) (rw own f.earlier))
+      (λ j h.
+      let l : j < length vs = omega (arith, f.inside) in
+      (told vs ms j (its j l)).1 ((Is_kept_earlier vs j (omega arith)).1 (f.first j h))))
 
+module _ (vs : List ℕ) {r : Option Summed} (u : FirstUnkept (masks vs) r) where
   pub none_named : Independent vs → r ≡ None
-  none_named independent = u.all_kept (λ j h. let l : j < length vs = rw masks_length at h in (tells j l).1 (independent_all_kept vs independent j l))
+  none_named independent = u.all_kept (λ j h. let l : j < length vs = rw masks_length at h in (told vs (masks vs) j (masks_at vs j l)).1 (independent_all_kept vs independent j l))
 
 is_kept : (b : Bool) → ¬ (b ≡ false) → b ≡ true
 is_kept true not = refl

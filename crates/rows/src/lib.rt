@@ -8,8 +8,8 @@ ghost use Rattle.span.specs.Scan.{masks as masks_of_each, units};
 ghost use Rattle.span.specs.Rows.{row as row_in, rows as rows_in};
 ghost use Rattle.rows.specs.Listed.{kept_in, FirstUnkept, kept_numbers};
 
-use arrayvec::ArrayVec;
 use bits::WIDTH;
+use few::Few;
 
 // Bit j of row i is bit i of number j; of more than 16 numbers the first 16 are taken.
 pub fn row(numbers: &[u16], i: usize) -> u16
@@ -74,13 +74,13 @@ pub fn first_sum(masks: &[u16]) -> Option<Summed>
 }
 
 // Of the rows from a to b - 1, of the first 16, those that were kept, or those that were not, each as a power of two; 2^0 stands for row a. `kept` is what a row is compared with, and chooses no other way to go.
-pub fn list_rows(masks: &[u16], a: usize, b: usize, kept: bool) -> ArrayVec<u16, WIDTH>
+pub fn list_rows(masks: &[u16], a: usize, b: usize, kept: bool) -> Few<u16, WIDTH>
     ensures { result.items ≡ units (kept_numbers masks.now a (min b array_width) kept) }
 {
-    let mut units = ArrayVec::new();
+    let mut units = Few::new();
     for i in a..b.min(WIDTH) {
         if was_kept(masks, i) == kept {
-            units.push(bits::two_to((i - a) as u32) as u16);
+            units.add(bits::two_to((i - a) as u32) as u16);
         }
     }
     units

@@ -31,18 +31,22 @@ pub fn tick(
         words: words.len(),
         marks: marks.len(),
     };
-    let sides = check(n, k, sheet, state, lengths)?;
-    call::call(
-        n,
-        k,
-        &sides.write,
-        &sides.read,
-        state,
-        came,
-        out,
-        words,
-        marks,
-    )
+    // the sides are looked at where they are: a question mark would copy them
+    let checked = check(n, k, sheet, state, lengths);
+    match &checked {
+        Ok(sides) => call::call(
+            n,
+            k,
+            &sides.write,
+            &sides.read,
+            state,
+            came,
+            out,
+            words,
+            marks,
+        ),
+        Err(refusal) => Err(*refusal),
+    }
 }
 
 // What comes before the faults: 1, 2, 5 and 10, and both sides, opened, where none applies.
@@ -56,9 +60,9 @@ pub fn check(
     ensures { ChecksRun edition1 n k sheet.now state lengths result }
 {
     let fits = lent::lengths_fit(n, k, lengths);
-    let sides = maps::open(n, k, sheet, fits)?;
-    if !state.possible(bits::two_to(n - k)) {
+    let opened = maps::open(n, k, sheet, fits);
+    if opened.is_ok() && !state.possible(bits::two_to(n - k)) {
         return Err(Refusal::State);
     }
-    Ok(sides)
+    opened
 }

@@ -1,6 +1,7 @@
 -- A side that is laid out is read as it was written.
 --   Layable e n k S   the side S can be laid out: n address columns, k wiring columns and no more stages than there are places for, all in range
 --   padded_used       padding a list or its beginning is the same where the rest is zero
+--   flat_snoc         one stage more has two numbers more
 --   flat_length       there are two numbers for a stage
 --   stage_more        one stage more, written after the others
 --   flat_part         stages that are read off some places are the first of these places
@@ -45,7 +46,7 @@ padded_used m u l few unused =
 
 -- stages as they stand on a sheet
 
-flat_snoc : (ss : List Stage) (s : Stage) → flat (ss ++ (s ∷ [])) ≡ flat ss ++ (s.direction ∷ s.control ∷ [])
+pub flat_snoc : (ss : List Stage) (s : Stage) → flat (ss ++ (s ∷ [])) ≡ flat ss ++ (s.direction ∷ s.control ∷ [])
 flat_snoc [] s = refl
 flat_snoc (t ∷ ss) s = ap (λ (l : List ℕ). t.direction ∷ t.control ∷ l) (flat_snoc ss s)
 

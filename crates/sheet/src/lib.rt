@@ -10,7 +10,7 @@ ghost use Rattle.sheet.specs.Layout.{StageInRange, EachStage, FormedSide};
 ghost use Rattle.sheet.specs.Table.{sheet_table};
 ghost use Rattle.sheet.specs.Inside.{Whole, IsStageAt, most_stages_in};
 
-use arrayvec::ArrayVec;
+use few::{Blank, Few};
 use kinds::{Refusal, Sizes};
 
 // The places of edition 1, as 01's table has them: address columns from 0 on, then these.
@@ -33,8 +33,19 @@ pub struct Stage {
     pub control: u16,
 }
 
+impl Blank for Stage {
+    ghost blank = { record { direction = 0; control = 0 } };
+
+    fn blank() -> Stage {
+        Stage {
+            direction: 0,
+            control: 0,
+        }
+    }
+}
+
 // As many stages as a side may have, or fewer.
-pub type Stages = ArrayVec<Stage, MOST_STAGES>;
+pub type Stages = Few<Stage, MOST_STAGES>;
 
 // 1, 2 and 5, and the sizes where none applies. `fits` says whether every other length that the tool was lent is right.
 pub fn check(n: u32, k: u32, sheet: &[u16], fits: bool) -> Result<Sizes, Refusal>
@@ -112,9 +123,9 @@ pub fn stage_at(places: &[u16], s: usize) -> Stage
 pub fn stages_of(places: &[u16], count: usize) -> Stages
     ensures { result.items ≡ stages_in (most_stages_in count places.now) places.now }
 {
-    let mut stages = Stages::new();
-    for s in 0..count.min(places.len() / 2).min(MOST_STAGES) {
-        stages.push(stage_at(places, s));
+    let mut stages = [Stage::default(); MOST_STAGES];
+    for s in 0..MOST_STAGES {
+        stages[s] = stage_at(places, s);
     }
-    stages
+    Stages::first(stages, count.min(places.len() / 2))
 }

@@ -1,8 +1,9 @@
-use Rattle.std.proofs.Common.{List, ℕ, [], ◌∷◌, ◌≤◌, ◌<◌, ◌++◌, length, drop, sym, arith, length-append, drop-cons}
+use Rattle.std.proofs.Common.{List, ℕ, [], ◌∷◌, ◌≤◌, ◌<◌, ◌++◌, length, drop, sym, ◌∙◌, arith, length-append, drop-cons}
 use mathlib.Core.List.{append-nil}
 use mathlib.Core.Option.{some-injective}
 use lib.ListN.{drop_of_length-le}
 use lib.Seq.{append_snoc}
+use Rattle.few.proofs.FewLaws.{with_room}
 use Rattle.kinds.proofs.FirstLaws.{none_some}
 use Rattle.text.specs.Numbers.{IsRow, Begins}
 use Rattle.text.proofs.RowLaws.{row_step, row_none, row_rest, row_begins}
@@ -38,7 +39,7 @@ returns-in_default c = record {
 }
 
 pub loop-place-preserved : goal.loop-place-preserved
-loop-place-preserved c = let (_, inside, g) = next_number c.in-Ok.ensures in rw c.push.ensures.items (more c.loop-place.invariant inside g)
+loop-place-preserved c = let (_, inside, g) = next_number c.in-Ok.ensures in rw (c.add.ensures ∙ with_room 62 _ _ (omega (arith, c.loop-place.invariant.passed, c.loop-place.invariant.short, c.loop-place-test.true))) (more c.loop-place.invariant inside g)
 
 pub returns : goal.returns
 returns c = record { read = done c.loop-place.invariant c.loop-place-test.false; unread = λ x e. none_some e }

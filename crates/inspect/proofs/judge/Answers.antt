@@ -76,8 +76,8 @@ module _ (n k : ℕ) (C s : List ℕ) {o p : OpenSide} (write : Shows n k o (wri
       says_9 : Says b (¬ Differ n (M edition1 n k s) (N edition1 n k s) (place C))
       says_9 =
           let used : take n cells ≡ cell_columns n k W = rw listed (take_at (cell_columns n k W) _ n (columns_length n (M edition1 n k s))) in
-          let agrees = rw used at (test n R read) in
-          let tells = columns_tell write read C count in
+          let agrees = rw (used, count) at (test n R read) in
+          let tells = columns_tell write read C in
           (λ e. tells.1 (agrees.0 e), λ same. agrees.1 (tells.0 same))
 
       gives_9 : b ≡ false → first_of (drop 3 table) ≡ some Differs

@@ -1,8 +1,9 @@
-use Rattle.std.proofs.Common.{ℕ, ◌≡◌, ◌≤◌, ◌<◌, sym, inl, inr, List, [], ◌∷◌, ◌++◌, length, take, take_all, take_at, append_assoc, append-nil, arith}
+use Rattle.std.proofs.Common.{ℕ, ◌≡◌, ◌≤◌, ◌<◌, sym, ap, ◌∙◌, inl, inr, List, [], ◌∷◌, ◌++◌, length, take, take_all, take_at, append_assoc, append-nil, length-take, arith}
 use Rattle.std.proofs.lemmas.List.{nil_from_length}
 use native.Mathlib.Decide.{dec_lt}
 use borrow.Author.Tests.{false-eqb, true-eqb}
 use Rattle.sheet.specs.declared.Stage.{Stage}
+use Rattle.few.proofs.FewLaws.{with_room}
 use Rattle.lay.specs.Staged.{pairs}
 use Rattle.lay.proofs.PairLaws.{pairs_least}
 use Rattle.lay.proofs.pair_up.Goals as goal
@@ -12,6 +13,9 @@ module _ (items : List Stage) where
       → items ++ pairs a b ≡ all → next ++ pairs x y ≡ all
   unfolding pairs
   more (first, second) is e = let left = rw second at (rw first at e) in rw (is, append_assoc) left
+
+  no_more : (s : Stage) {next : List Stage} → next ≡ take 8 (items ++ (s ∷ [])) → length next ≤ 8
+  no_more s e = omega (arith, ap length e, length-take 8 (items ++ (s ∷ [])))
 
   -- the stages are as many as a side may have, or none is left
   done : (rest : List Stage) {all : List Stage} → length items ≤ 8 → (length items < 8 → length rest ≡ 0) → items ++ rest ≡ all → items ≡ take 8 all
@@ -24,10 +28,12 @@ module _ (items : List Stage) where
   ]
 
 pub loop-direction-preserved : goal.loop-direction-preserved
-loop-direction-preserved c = record {
-  few = omega (arith, false-eqb _ _ c.if-is_full.ensures.value);
-  left = more _ c.in-Some.ensures.steps c.push.ensures.items c.loop-direction.invariant.left;
-}
+loop-direction-preserved c =
+    let room : length c.loop-direction.stages.items < 8 = omega (arith, c.loop-direction.invariant.few, false-eqb _ _ c.if-is_full.ensures.value) in
+    record {
+      few = no_more _ _ c.add.ensures;
+      left = more _ c.in-Some.ensures.steps (c.add.ensures ∙ with_room 8 _ _ room) c.loop-direction.invariant.left;
+    }
 
 pub returns-in-None : goal.returns-in-None
 returns-in-None c =

@@ -1,8 +1,10 @@
--- The numbers of the first stages stand in the places, and zeros after them.
-use Rattle.std.proofs.Common.{◌≡◌, length, take}
-use Rattle.bits.specs.Padded.{padded_to}
+-- The numbers of the first stages stand in the places.
+use Rattle.std.proofs.Common.{◌≡◌, ◌*◌, length, take}
 use Rattle.sheet.specs.Sheet.{flat}
 use Rattle.lay.proofs.put_stages.Given as goal
 
 abbrev pub invariant-loop-s : goal.invariant-loop-s
-invariant-loop-s l = l.places ≡ padded_to (length l.fn.places) (flat (take l.s l.stages))
+invariant-loop-s l = record {
+  same : length l.places ≡ length l.fn.places;
+  front : take (2 * l.s) l.places ≡ flat (take l.s l.stages);
+}

@@ -18,9 +18,9 @@ module _ (c : In_ok-sizes) where
 pub slice_bounds-open_side-end : goal.slice_bounds-open_side-end
 slice_bounds-open_side-end c = simp length-take (omega (arith, (sound (goal.at.slice_bounds-open_side-end c).In_ok-sizes).1))
 
-pub open_side-requires : goal.open_side-requires
-open_side-requires c =
-    let open_at = (goal.at.open_side-requires c).In_ok-sizes in
+pub open_side-write-requires : goal.open_side-write-requires
+open_side-write-requires c =
+    let open_at = (goal.at.open_side-write-requires c).In_ok-sizes in
     record { places = simp length-take (omega (arith, (sound open_at).1)); formed = (formed open_at).write }
 
 pub slice_bounds-open_side-count : goal.slice_bounds-open_side-count
@@ -29,9 +29,9 @@ slice_bounds-open_side-count c = omega (arith, (sound (goal.at.slice_bounds-open
 pub slice_bounds-open_side-start : goal.slice_bounds-open_side-start
 slice_bounds-open_side-start c = omega (arith, (sound (goal.at.slice_bounds-open_side-start c).In_ok-sizes).1)
 
-pub open_side-requires-2 : goal.open_side-requires-2
-open_side-requires-2 c =
-    let open_at = (goal.at.open_side-requires-2 c).In_ok-sizes in
+pub open_side-read-requires : goal.open_side-read-requires
+open_side-read-requires c =
+    let open_at = (goal.at.open_side-read-requires c).In_ok-sizes in
     record {
       places = simp (length-take, length-drop) (omega (arith, (sound open_at).1));
       formed = rw (last_part c.args.sheet.now 0 32) (formed open_at).read;
@@ -43,7 +43,7 @@ returns c =
     record {
       answer = c.in_ok-sizes.ensures.answer;
       sides = rw (← same_n, ← same_k) (record {
-        write = c.open_side.ensures;
-        read = subst (λ (l : List ℕ). OpensSide c.in_ok-sizes.sizes.n c.in_ok-sizes.sizes.k l c.open_side-2.result) (last_part c.args.sheet.now 0 32) c.open_side-2.ensures;
+        write = c.open_side-write.ensures;
+        read = subst (λ (l : List ℕ). OpensSide c.in_ok-sizes.sizes.n c.in_ok-sizes.sizes.k l c.open_side-read.result) (last_part c.args.sheet.now 0 32) c.open_side-read.ensures;
       });
     }

@@ -1,5 +1,5 @@
 -- It goes down the table from 2 to 4; past each test the reason does not apply.
-use Rattle.std.proofs.Common.{ℕ, ◌^◌, ◌≤◌, ◌≡◌, Bool, true, List, [], ◌∷◌, length, sym, ◌∙◌, arith}
+use Rattle.std.proofs.Common.{ℕ, ◌^◌, ◌≤◌, ◌≡◌, Bool, true, List, [], ◌∷◌, length, refl, sym, ◌∙◌, arith}
 use mathlib.Core.Option.{Option, none, some}
 use Rattle.kinds.specs.First.{first_of}
 use Rattle.kinds.specs.Lengths.{Wanted, exactly, RightLengths}
@@ -14,6 +14,7 @@ use Rattle.span.specs.Decisions.{independent?}
 use Rattle.span.specs.First.{first_sum}
 use Rattle.span.specs.Scan.{mask}
 use Rattle.span.specs.Tools.{most_scanned}
+use Rattle.span.proofs.MaskLaws.{masks_length}
 use Rattle.span.proofs.ToolLaws.{scans_all, scans_masks}
 use Rattle.rows.proofs.KeptLaws.{first_named, none_named}
 use Rattle.order.specs.Order.{ColumnTooLarge}
@@ -63,7 +64,7 @@ returns-in-Some c =
     let few : length C ≤ most_scanned = omega (arith, c.requires, c.if-columns-n.false) in
     let named = rw (scans_masks c.scan_all-scanned.ensures few) at c.first_sum.ensures in
     let dep : ¬ Independent C = λ independent. cc (none_named C named independent, c.in-Some.is) in
-    let sum : c.in-Some.sum ≡ record { at = first_sum C; mask = mask C (first_sum C) } = cc (first_named C named dep, c.in-Some.is) in
+    let sum : c.in-Some.sum ≡ record { at = first_sum C; mask = mask C (first_sum C) } = cc (first_named named C (omega (arith, masks_length C)) (λ i. refl) dep, c.in-Some.is) in
     record {
       answer = rw sum (dependent _ _ _ c.if-not-fits.false c.if-columns-n.false (c.within_bits.ensures.0 c.if-not-within_bits.false) dep);
       holds = tt;
@@ -74,7 +75,7 @@ returns c =
     let C = c.args.columns.now in
     let few : length C ≤ most_scanned = omega (arith, c.requires, c.if-columns-n.false) in
     let named = rw (scans_masks c.scan_all-scanned.ensures few) at c.first_sum.ensures in
-    let independent : Independent C = stable (independent? C) (λ dep. c.in_default.not-Some _ (first_named C named dep)) in
+    let independent : Independent C = stable (independent? C) (λ dep. c.in_default.not-Some _ (first_named named C (omega (arith, masks_length C)) (λ i. refl) dep)) in
     record {
       answer = right _ _ _ c.if-not-fits.false c.if-columns-n.false (c.within_bits.ensures.0 c.if-not-within_bits.false) independent;
       holds = scans_all c.scan_all-scanned.ensures few;

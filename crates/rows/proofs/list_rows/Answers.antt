@@ -5,6 +5,7 @@ use Rattle.kinds.specs.Answers.{Says}
 use Rattle.kinds.specs.Search.{those}
 use Rattle.kinds.proofs.SearchLaws.{those_new, those_old}
 use Rattle.kinds.proofs.TruthLaws.{denied, equal_says}
+use Rattle.few.proofs.FewLaws.{with_room}
 use Rattle.bits.specs.Padded.{array_width}
 use Rattle.rows.specs.Listed.{kept_in, kept_numbers}
 use Rattle.rows.proofs.list_rows.Invariants.{Listing}
@@ -57,7 +58,7 @@ loop-i-preserved c =
     elim c.if-was_kept-kept.branch [
       | then-was_kept-kept w ↦
           rw w.units-is
-          (add c.loop-i.invariant from c.loop-i-test.true (test.0 w.if-was_kept-kept.true) (w.two_to.ensures.fits (omega arith)) w.push.ensures.items)
+          (add c.loop-i.invariant from c.loop-i-test.true (test.0 w.if-was_kept-kept.true) (w.two_to.ensures.fits (omega arith)) (w.add.ensures ∙ with_room array_width _ _ (omega (arith, c.loop-i.invariant.few))))
       | else-was_kept-kept w ↦ rw w.units-is (pass c.loop-i.invariant from c.loop-i-test.true (denied test w.if-was_kept-kept.false))
     ]
 

@@ -1,7 +1,6 @@
--- Where the sheet is opened nothing is left but 10.
-use Rattle.std.proofs.Common.{ℕ, ◌-◌, ◌≡◌, Bool, List, [], ◌∷◌, ◌++◌, Ok, Err, sym, ◌∙◌, arith}
+-- Where the sheet is opened nothing is left but 10; else its refusal is handed on.
+use Rattle.std.proofs.Common.{ℕ, ◌-◌, ◌≡◌, Bool, List, [], ◌∷◌, ◌++◌, Result, IsOk, Ok, Err, refl, sym, ◌∙◌, arith}
 use mathlib.Core.Option.{none}
-use Rattle.std.proofs.lemmas.Result.{err_from_is_err_and}
 use Rattle.kinds.specs.Answers.{Says}
 use Rattle.kinds.specs.Edition.{edition1, Sized}
 use Rattle.kinds.specs.Frame.{ticks}
@@ -22,6 +21,7 @@ use Rattle.state.specs.declared.State.{State}
 use Rattle.lent.specs.Lent.{run_lengths}
 use Rattle.lent.specs.declared.Lengths.{Lengths}
 use Rattle.run.specs.Tool.{ChecksRun}
+use Rattle.run.proofs.check.Goals.{else-is_ok-via-then-is_ok+else-not-possible, else-is_ok-via-else-is_ok}
 use Rattle.run.proofs.check.Goals as goal
 
 module _ (n k : ℕ) (s : List ℕ) (st : State) (l : Lengths) {fits : Bool} (right : Says fits (RightLengths (run_lengths n k l))) where
@@ -50,22 +50,25 @@ module _ (n k : ℕ) (s : List ℕ) (st : State) (l : Lengths) {fits : Bool} (ri
     checks_done : Possible (ticks n k) st → ChecksRun edition1 n k s st l (Ok o)
     checks_done possible = record { answer = sym (left ∙ first_skip _ _ (λ not. not possible) ∙ first_nil); sides = opens.sides }
 
-pub returns-in_err-sides : goal.returns-in_err-sides
-returns-in_err-sides c =
-    let x = c.args in
-    let p = err_from_is_err_and c.from_residual.result c.from_residual.ensures.1 in
-    rw (p.1, p.2) (checks_refused x.n x.k x.sheet.now x.state x.lengths c.lengths_fit-fits.ensures c.in_err-sides.ensures)
+  refuses_state : {T : ℕ} → TwoTo (n - k) T → (r : Result Sides Refusal) → Opens edition1 n k s fits r → IsOk r → ¬ Possible T st → ChecksRun edition1 n k s st l (Err Impossible)
+  refuses_state two (Ok o) opens ok not = checks_impossible opens (rw (frame_ticks opens two) at not)
+  refuses_state two (Err x) opens ok not = cc
+
+  hands_on : (r : Result Sides Refusal) → Opens edition1 n k s fits r → (IsOk r → (T : ℕ) × TwoTo (n - k) T × Possible T st) → ChecksRun edition1 n k s st l r
+  hands_on (Ok o) opens possible = let (T, two, is) = possible refl in checks_done opens (rw (frame_ticks opens two) at is)
+  hands_on (Err x) opens possible = checks_refused opens
 
 pub returns-then-not-possible : goal.returns-then-not-possible
 returns-then-not-possible c =
     let x = c.args in
-    let opens = c.in_ok-sides.ensures in
-    checks_impossible x.n x.k x.sheet.now x.state x.lengths c.lengths_fit-fits.ensures opens
-    (rw (frame_ticks x.n x.k x.sheet.now x.state x.lengths c.lengths_fit-fits.ensures opens c.two_to.ensures) at (denied c.possible.ensures c.if-not-possible.true))
+    refuses_state x.n x.k x.sheet.now x.state x.lengths c.lengths_fit-fits.ensures c.two_to.ensures c.open-opened.result c.open-opened.ensures
+    (sym c.is_ok.ensures.value ∙ c.if-is_ok.true) (denied c.possible.ensures c.if-not-possible.true)
 
 pub returns : goal.returns
 returns c =
     let x = c.args in
-    let opens = c.in_ok-sides.ensures in
-    checks_done x.n x.k x.sheet.now x.state x.lengths c.lengths_fit-fits.ensures opens
-    (rw (frame_ticks x.n x.k x.sheet.now x.state x.lengths c.lengths_fit-fits.ensures opens c.two_to.ensures) at (c.possible.ensures.0 c.if-not-possible.false))
+    hands_on x.n x.k x.sheet.now x.state x.lengths c.lengths_fit-fits.ensures c.open-opened.result c.open-opened.ensures
+    (λ ok. elim c.else-is_ok.branch [
+      | else-is_ok-via-then-is_ok+else-not-possible w ↦ (_, w.two_to.ensures, w.possible.ensures.0 w.if-not-possible.false)
+      | else-is_ok-via-else-is_ok w ↦ cc (ok, c.is_ok.ensures.value, w.if-is_ok.false)
+    ])

@@ -1,6 +1,5 @@
 -- Past the check both sides are shown, and nothing is left but 11 to 14.
 use Rattle.std.proofs.Common.{ℕ, List, Result, Ok, Err, sym}
-use Rattle.std.proofs.lemmas.Result.{err_from_is_err_and}
 use Rattle.kinds.specs.Edition.{edition1}
 use Rattle.kinds.specs.declared.Refusal.{Refusal}
 use Rattle.sheet.specs.Sheet.{write_side, read_side}
@@ -26,18 +25,16 @@ module _ (n k : ℕ) (s : List ℕ) (b : Lent) where
       comes_past (before_faults edition1 n k s b) n k (M edition1 n k s) (N edition1 n k s) b _ (sym checks.answer) sound
       (calls.over (write_side edition1 n k s) (read_side edition1 n k s) checks.sides.write checks.sides.read)
 
-pub returns-in_err-sides : goal.returns-in_err-sides
-returns-in_err-sides c =
+pub returns-in-Err : goal.returns-in-Err
+returns-in-Err c =
     let args = c.args in
-    let p = err_from_is_err_and c.from_residual.result c.from_residual.ensures.1 in
-    rw (p.1, p.2)
-    (ticks_checked args.n args.k args.sheet.now
+    ticks_checked args.n args.k args.sheet.now
     (record { state = args.state; came = args.came.now; memory = record { words = args.words.now; marks = args.marks.now }; out = args.out.now })
-    c.in_err-sides.ensures)
+    (rw c.in-Err.is at c.check-checked.ensures)
 
-pub returns : goal.returns
-returns c =
+pub returns-in-Ok : goal.returns-in-Ok
+returns-in-Ok c =
     let args = c.args in
     ticks_by args.n args.k args.sheet.now
     (record { state = args.state; came = args.came.now; memory = record { words = args.words.now; marks = args.marks.now }; out = args.out.now })
-    c.in_ok-sides.ensures c.call.ensures
+    (rw c.in-Ok.is at c.check-checked.ensures) c.call.ensures

@@ -1,9 +1,8 @@
--- Column j adds its stage where it is kept and there is room, and is passed otherwise.
-use Rattle.std.proofs.Common.{ℕ, ◌+◌, ◌≤◌, ◌<◌, ◌≡◌, Bool, true, false, List, [], ◌∷◌, ◌++◌, map, length, get_or, take, refl, sym, ap, ap₂, ◌∙◌, inl, inr, add-one, arith, length-append, take_all, take_at}
+-- Column j adds its stage where it is kept, and is passed otherwise.
+use Rattle.std.proofs.Common.{ℕ, ◌+◌, ◌≤◌, ◌<◌, ◌≡◌, Bool, true, false, List, [], ◌∷◌, ◌++◌, map, length, get_or, take, refl, sym, ap, ap₂, ◌∙◌, inl, inr, add-one, arith, length-take-le, take_all, take_at}
 use Rattle.std.proofs.lemmas.List.{take-append-le}
-use Rattle.std.proofs.lemmas.Bool.Decides.{nat_tests}
 use mathlib.Core.List.{map-append}
-use lib.ListN.{length-take}
+use native.Mathlib.Decide.{dec_le}
 use Rattle.kinds.specs.Edition.{edition1}
 use Rattle.kinds.specs.Answers.{Says}
 use Rattle.kinds.proofs.TruthLaws.{denied}
@@ -18,7 +17,7 @@ use Rattle.sheet.specs.declared.Stage.{Stage}
 use Rattle.switches.specs.Written.{kept_stage, kept_stages_of}
 use Rattle.plan.proofs.chosen.kept_stages.Invariants.{Keeping}
 use Rattle.plan.proofs.chosen.kept_stages.Goals as goal
-use Rattle.plan.proofs.chosen.kept_stages.Goals.{then-was_kept+then-not-is_full, else-was_kept, else-was_kept-via-then-was_kept+else-not-is_full, else-was_kept-via-else-was_kept}
+use Rattle.plan.proofs.chosen.kept_stages.Goals.{then-was_kept, else-was_kept}
 
 start : {F ms : List ℕ} → length F ≤ array_width → ms ≡ masks F → Keeping F ms [] 0
 unfolding kept_at
@@ -34,30 +33,28 @@ module _ {F ms : List ℕ} {ss : List Stage} {j : ℕ} (i : Keeping F ms ss j) {
   one_more : b ≡ true → map (kept_stage F) (kept_at F (j + 1)) ≡ before ++ (kept_stage F j ∷ [])
   one_more taken = rw (add-one j) (ap (map (kept_stage F)) (kept_at_new F j (says.0 taken)) ∙ map-append (kept_stage F) (kept_at F j) (j ∷ []))
 
-  more : {control : ℕ} → b ≡ true → length ss < edition1.most_stages → control ≡ row (take array_width ms) j
-      → Keeping F ms (ss ++ (record { direction = get_or F j 0; control = control } ∷ [])) (j + 1)
-  more {control} taken few c =
+  -- one more of a list that stands as far as there is room
+  room_for : (ts : List Stage) (x : Stage) → take edition1.most_stages (take edition1.most_stages ts ++ (x ∷ [])) ≡ take edition1.most_stages (ts ++ (x ∷ []))
+  room_for ts x = elim (dec_le edition1.most_stages (length ts)) [
+    | yes full ↦
+        let all = length-take-le edition1.most_stages ts full in
+        take_at (take edition1.most_stages ts) (x ∷ []) edition1.most_stages all ∙ sym (take-append-le edition1.most_stages ts (x ∷ []) full)
+    | no few ↦ rw (take_all edition1.most_stages ts (omega arith)) refl
+  ]
+
+  more : {control : ℕ} {next : List Stage} → b ≡ true → control ≡ row (take array_width ms) j
+      → next ≡ take edition1.most_stages (ss ++ (record { direction = get_or F j 0; control = control } ∷ [])) → Keeping F ms next (j + 1)
+  more {control} taken c is =
       let whole : take array_width ms ≡ masks F = ap (take array_width) i.masked ∙ take_all array_width (masks F) (omega (arith, masks_length F, i.room)) in
-      let short : length before < edition1.most_stages = omega (arith, few, ap length i.kept, length-take edition1.most_stages before) in
       record {
         room = i.room;
         masked = i.masked;
         kept =
-            ap₂ (λ (ts : List Stage) (x : ℕ). ts ++ (record { direction = get_or F j 0; control = x } ∷ []))
-            (i.kept ∙ take_all edition1.most_stages before (omega arith))
-            (c ∙ ap (λ (l : List ℕ). row l j) whole)
-            ∙ sym (ap (take edition1.most_stages) (one_more taken) ∙ take_all edition1.most_stages (before ++ (kept_stage F j ∷ [])) (omega (arith, length-append before (kept_stage F j ∷ []))));
+            is
+            ∙ ap₂ (λ (ts : List Stage) (x : ℕ). take edition1.most_stages (ts ++ (record { direction = get_or F j 0; control = x } ∷ []))) i.kept (c ∙ ap (λ (l : List ℕ). row l j) whole)
+            ∙ room_for before (kept_stage F j)
+            ∙ sym (ap (take edition1.most_stages) (one_more taken));
       }
-
-  full : b ≡ true → length ss ≡ edition1.most_stages → Keeping F ms ss (j + 1)
-  full taken all = record {
-    room = i.room;
-    masked = i.masked;
-    kept =
-        i.kept
-        ∙ sym (ap (take edition1.most_stages) (one_more taken)
-        ∙ take-append-le edition1.most_stages before (kept_stage F j ∷ []) (omega (arith, all, ap length i.kept, length-take edition1.most_stages before)));
-  }
 
   skip : b ≡ false → Keeping F ms ss (j + 1)
   skip left =
@@ -76,11 +73,8 @@ loop-j-preserved c =
     let h = c.loop-j-test.true in
     let kept = c.was_kept.ensures in
     elim c.if-was_kept.branch [
-      | then-was_kept+then-not-is_full w ↦ rw (w.stages-is, w.push.ensures.items) (more i h kept w.if-was_kept.true (grind (arith, nat_tests, w.if-not-is_full.ensures.value, w.if-not-is_full.ensures.fits)) w.row.ensures)
-      | else-was_kept w ↦ rw w.stages-is (elim w.else-was_kept.branch [
-        | else-was_kept-via-then-was_kept+else-not-is_full v ↦ full i h kept v.if-was_kept.true (grind (arith, nat_tests, v.if-not-is_full.ensures.value))
-        | else-was_kept-via-else-was_kept v ↦ skip i h kept v.if-was_kept.false
-      ])
+      | then-was_kept w ↦ rw w.stages-is (more i h kept w.if-was_kept.true w.row.ensures w.add.ensures)
+      | else-was_kept w ↦ rw w.stages-is (skip i h kept w.if-was_kept.false)
     ]
 
 pub returns : goal.returns

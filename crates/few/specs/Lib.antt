@@ -1,0 +1,2 @@
+-- A few things in order.
+pub mod Few
